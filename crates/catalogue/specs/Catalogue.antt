@@ -1,0 +1,150 @@
+-- The catalogue: the fifty parameters of the six module types, in rising order of index 1 and then index 2 within a type.
+pub mod Distinct
+pub mod Each
+pub mod Fits
+pub mod Laws
+pub mod Numbers
+pub mod Reading
+pub mod Rules
+pub mod Sized
+pub mod Taking
+use mathlib.Core.Bool.{Bool, true, false, cond, _&&_}
+use mathlib.Core.List.{List, [], _∷_, map}
+use Prim.Native.Nat.{ℕ, suc}
+use lib.Dec.{eqb, leb, ltb}
+use lib.IntN.{ℤ, pos, negsuc, negℤ}
+use Rattle.catalogue.specs.declared.rows.Indices.{Indices}
+use Rattle.catalogue.specs.declared.rows.Indices.the-variants.{OneGroup, TwoGroups}
+use Rattle.catalogue.specs.declared.rows.Kind.{Kind}
+use Rattle.catalogue.specs.declared.rows.Kind.the-variants.{Level, Switch, Number}
+use Rattle.catalogue.specs.declared.rows.Row.{Row}
+
+-- a row, and the module type that has it
+pub record Entry : Type 0 where
+  pub owner : ℕ
+  pub row : Row
+
+unfoldable pub minus : ℕ → ℤ
+minus n = negℤ (pos n)
+
+-- a level, in tenths of a dB
+unfoldable pub level : ℕ → Indices → ℤ → ℤ → ℕ → Bool → Entry
+level owner indices low high step settable =
+    record { owner = owner; row = record { indices = indices; kind = Level; low = low; high = high; step = step; settable = settable } }
+
+-- a switch is 0, off, or 1, on
+unfoldable pub switch : ℕ → Indices → Bool → Entry
+switch owner indices settable =
+    record { owner = owner; row = record { indices = indices; kind = Switch; low = pos 0; high = pos 1; step = 1; settable = settable } }
+
+-- a number from low to high
+unfoldable pub number : ℕ → Indices → ℕ → ℕ → Bool → Entry
+number owner indices low high settable =
+    record { owner = owner; row = record { indices = indices; kind = Number; low = pos low; high = pos high; step = 1; settable = settable } }
+
+-- type, indices, low, high and step of a level or low and high of a number, and whether a line may set it
+unfoldable pub catalogue : List Entry
+catalogue =
+    level 1 (OneGroup 1) (minus 150) (pos 150) 1 true ∷
+    switch 1 (OneGroup 2) true ∷
+    level 1 (OneGroup 3) (minus 150) (pos 150) 1 true ∷
+    switch 1 (OneGroup 4) true ∷
+    level 1 (OneGroup 5) (minus 150) (pos 150) 1 true ∷
+    switch 1 (OneGroup 6) true ∷
+    switch 2 (OneGroup 1) true ∷
+    switch 3 (OneGroup 1) true ∷
+    number 4 (TwoGroups 1 1) 0 9 true ∷
+    level 4 (TwoGroups 1 2) (minus 605) (pos 120) 5 true ∷
+    switch 4 (TwoGroups 1 3) true ∷
+    level 4 (TwoGroups 1 4) (minus 605) (pos 120) 5 true ∷
+    switch 4 (TwoGroups 1 5) true ∷
+    level 4 (TwoGroups 1 6) (minus 605) (pos 120) 5 true ∷
+    switch 4 (TwoGroups 1 7) true ∷
+    number 5 (TwoGroups 0 1) 0 8 false ∷
+    number 5 (TwoGroups 0 2) 0 32 false ∷
+    number 5 (TwoGroups 0 3) 0 16 false ∷
+    switch 5 (TwoGroups 0 4) false ∷
+    number 5 (TwoGroups 0 5) 0 6 false ∷
+    level 5 (TwoGroups 0 8) (minus 60) (minus 30) 10 false ∷
+    level 5 (TwoGroups 1 1) (minus 605) (pos 120) 5 true ∷
+    switch 5 (TwoGroups 1 2) true ∷
+    level 5 (TwoGroups 1 3) (minus 605) (pos 120) 5 true ∷
+    switch 5 (TwoGroups 1 4) true ∷
+    level 5 (TwoGroups 1 5) (minus 605) (pos 120) 5 true ∷
+    switch 5 (TwoGroups 1 6) true ∷
+    level 5 (TwoGroups 1 7) (minus 605) (pos 120) 5 true ∷
+    switch 5 (TwoGroups 1 8) true ∷
+    number 5 (TwoGroups 1 9) 1 6 true ∷
+    level 5 (TwoGroups 2 1) (minus 605) (pos 120) 5 true ∷
+    switch 5 (TwoGroups 2 2) true ∷
+    level 5 (TwoGroups 2 3) (minus 605) (pos 120) 5 true ∷
+    switch 5 (TwoGroups 2 4) true ∷
+    level 5 (TwoGroups 2 5) (minus 605) (pos 120) 5 true ∷
+    switch 5 (TwoGroups 2 6) true ∷
+    level 5 (TwoGroups 2 7) (minus 605) (pos 120) 5 true ∷
+    switch 5 (TwoGroups 2 8) true ∷
+    level 5 (TwoGroups 2 9) (minus 605) (pos 120) 5 true ∷
+    switch 5 (TwoGroups 2 10) true ∷
+    level 5 (TwoGroups 2 11) (minus 605) (pos 120) 5 true ∷
+    switch 5 (TwoGroups 2 12) true ∷
+    level 5 (TwoGroups 2 13) (minus 605) (pos 120) 5 true ∷
+    switch 5 (TwoGroups 2 14) true ∷
+    level 5 (TwoGroups 2 15) (minus 605) (pos 120) 5 true ∷
+    switch 5 (TwoGroups 2 16) true ∷
+    level 5 (TwoGroups 2 17) (minus 605) (pos 120) 5 true ∷
+    switch 5 (TwoGroups 2 18) true ∷
+    switch 6 (TwoGroups 0 2) true ∷
+    number 6 (TwoGroups 1 1) 1 43200 true ∷
+    []
+
+-- the module types are numbered 1 to 6
+unfoldable pub known : ℕ → Bool
+known owner = leb 1 owner && leb owner 6
+
+-- the rows that a module type has, in the catalogue's order
+unfoldable pub rowsIn : ℕ → List Entry → List Row
+rowsIn owner [] = []
+rowsIn owner (e ∷ es) = cond (eqb (e .owner) owner) (e .row ∷ rowsIn owner es) (rowsIn owner es)
+
+unfoldable pub rowsOf : ℕ → List Row
+rowsOf owner = rowsIn owner catalogue
+
+-- how many rows the module types before it have
+unfoldable pub rowsBefore : ℕ → List Entry → ℕ
+rowsBefore owner [] = 0
+rowsBefore owner (e ∷ es) = cond (ltb (e .owner) owner) (suc (rowsBefore owner es)) (rowsBefore owner es)
+
+unfoldable pub firstRow : ℕ → ℕ
+firstRow owner = rowsBefore owner catalogue
+
+-- ---- the catalogue as the constant's numbers
+
+unfoldable pub kindNumber : Kind → ℤ
+kindNumber Level = pos 0
+kindNumber Switch = pos 1
+kindNumber Number = pos 2
+
+unfoldable pub firstNumber : Indices → ℤ
+firstNumber (OneGroup a) = pos a
+firstNumber (TwoGroups a b) = pos a
+
+-- -1 where there is no second group: no second index is that
+unfoldable pub secondNumber : Indices → ℤ
+secondNumber (OneGroup a) = negsuc 0
+secondNumber (TwoGroups a b) = pos b
+
+unfoldable pub columns : Entry → List ℤ
+columns e =
+    pos (e .owner) ∷
+    firstNumber (e .row .indices) ∷
+    secondNumber (e .row .indices) ∷
+    kindNumber (e .row .kind) ∷
+    e .row .low ∷
+    e .row .high ∷
+    pos (e .row .step) ∷
+    cond (e .row .settable) (pos 1) (pos 0) ∷
+    []
+
+-- type, index 1, index 2, kind, low, high, step and settable of each row
+unfoldable pub numbers : List (List ℤ)
+numbers = map columns catalogue

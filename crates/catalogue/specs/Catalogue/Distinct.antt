@@ -1,0 +1,39 @@
+-- The rows of a type have distinct indices.
+use mathlib.Core.Path.{_≡_, refl, sym, _∙_}
+use mathlib.Core.Bool.{Bool, true, false, cond, not}
+use mathlib.Core.List.{List, [], _∷_}
+use Prim.Native.Nat.{ℕ}
+use borrow.Author.Tests.{eq-eqb, eqb-true}
+use lib.Dec.{eqb}
+use Rattle.catalogue.specs.Every.{both-left, both-right, every, pairs}
+use Rattle.catalogue.specs.Catalogue.{Entry, catalogue, rowsIn, rowsOf}
+use Rattle.catalogue.specs.Catalogue.Each.{rows-tested}
+use Rattle.catalogue.specs.Catalogue.Rules.{catalogue-distinct, differ}
+use Rattle.catalogue.specs.Row.{sameIndices}
+use Rattle.catalogue.specs.declared.rows.Row.{Row}
+
+-- two rows do not have the same indices
+unfoldable pub rowsDiffer : Row → Row → Bool
+rowsDiffer r s = not (sameIndices (r .indices) (s .indices))
+
+differ-rows : (owner : ℕ) (e f : Entry) → e .owner ≡ owner → f .owner ≡ owner → differ e f ≡ true → rowsDiffer (e .row) (f .row) ≡ true
+unfolding differ rowsDiffer
+differ-rows owner e f p q h = rw (eq-eqb (e .owner) (f .owner) (p ∙ sym q)) at h
+
+pub distinct-rows : (owner : ℕ) (es : List Entry) → pairs differ es ≡ true → pairs rowsDiffer (rowsIn owner es) ≡ true
+unfolding pairs rowsIn
+distinct-rows owner [] h = refl
+distinct-rows owner (e ∷ es) h =
+    go (eqb (e .owner) owner) refl (both-left (every (differ e) es) (pairs differ es) h)
+    (distinct-rows owner es (both-right (every (differ e) es) (pairs differ es) h))
+  where
+    go : (b : Bool) → eqb (e .owner) owner ≡ b → every (differ e) es ≡ true → pairs rowsDiffer (rowsIn owner es) ≡ true
+        → pairs rowsDiffer (cond b (e .row ∷ rowsIn owner es) (rowsIn owner es)) ≡ true
+    go true s p q =
+        let o = eqb-true (e .owner) owner s in
+        rw (rows-tested (differ e) owner (rowsDiffer (e .row)) (λ f. differ-rows owner e f o) es p) q
+    go false s p q = q
+
+pub type-distinct : (owner : ℕ) → pairs rowsDiffer (rowsOf owner) ≡ true
+unfolding rowsOf
+type-distinct owner = distinct-rows owner catalogue catalogue-distinct

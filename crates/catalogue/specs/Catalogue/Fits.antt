@@ -1,0 +1,36 @@
+-- Every row's arithmetic stays within 64 bits: one test over the table.
+use mathlib.Core.Path.{_≡_, refl, sym}
+use mathlib.Core.Bool.{Bool, true, _&&_}
+use Prim.Native.Nat.{ℕ, _^_, _<_}
+use borrow.Author.Tests.{ltb-true}
+use lib.Dec.{ltb}
+use lib.ListN.{length}
+use lib.Signed.{mag}
+use Rattle.catalogue.specs.Every.{both-left, both-right, every, every-at}
+use Rattle.catalogue.specs.Catalogue.{Entry, catalogue, known, level, minus, number, rowsOf, switch}
+use Rattle.catalogue.specs.Catalogue.Each.{entryTest}
+use Rattle.catalogue.specs.Catalogue.Laws.{in-run, run-within}
+use Rattle.catalogue.specs.Catalogue.Rules.{entryAt, noEntry, rowOf}
+use Rattle.catalogue.specs.Row.Laws.{RowFits}
+use Rattle.catalogue.specs.declared.rows.Row.{Row}
+
+unfoldable pub fits : Row → Bool
+fits r = ltb (mag (r .low)) (2 ^ 62) && (ltb (mag (r .high)) (2 ^ 62) && ltb 0 (r .step))
+
+pub row-fits : (r : Row) → fits r ≡ true → RowFits r
+unfolding fits
+row-fits r e =
+    let rest = both-right (ltb (mag (r .low)) (2 ^ 62)) _ e in
+    record {
+      low-fits = ltb-true _ _ (both-left (ltb (mag (r .low)) (2 ^ 62)) _ e);
+      high-fits = ltb-true _ _ (both-left (ltb (mag (r .high)) (2 ^ 62)) _ rest);
+      positive = ltb-true _ _ (both-right (ltb (mag (r .high)) (2 ^ 62)) _ rest);
+    }
+
+pub catalogue-fits : every (entryTest fits) catalogue ≡ true
+unfolding fits every catalogue level switch number minus
+catalogue-fits = refl
+
+pub row-of-fits : (kind j : ℕ) → known kind ≡ true → j < length (rowsOf kind) → RowFits (rowOf kind j)
+unfolding entryAt
+row-of-fits kind j k h = rw (in-run kind j k h) (row-fits _ (every-at (entryTest fits) catalogue noEntry catalogue-fits _ (run-within kind j _ k h refl)))

@@ -1,0 +1,16 @@
+-- `field_sound`: the label before the first zero byte, and then the field's rest.
+use borrow.Author.Needs.{needs}
+use Rattle.room.specs.Table.Rules.{fields}
+use Rattle.room.proofs.table.field_sound.Statement.{statement}
+use Rattle.room.proofs.table.field_sound.Tie as tie
+
+pub field-sound-spec : {M : Type 1} → statement M
+field-sound-spec =
+    tie.close
+    (tie.spec
+    (λ c κs. search (fields, needs))
+    (λ c. search (fields, needs))
+    (λ c κs. search (fields, needs))
+    (λ c. search (fields, needs))
+    (λ c κs. search (fields, needs))
+    (λ c. search (fields, needs)))

@@ -1,0 +1,13 @@
+-- `label_byte`: too low, too high, and then whether it is a quote.
+use borrow.Author.Needs.{needs}
+use Rattle.room.specs.Table.Rules.{labels}
+use Rattle.room.proofs.table.label_byte.Statement.{statement}
+use Rattle.room.proofs.table.label_byte.Tie as tie
+
+pub label-byte-spec : {M : Type 1} → statement M
+label-byte-spec =
+    tie.close
+    (tie.spec
+    (λ c. search (labels, needs))
+    (λ c. search (labels, needs))
+    (λ c. search (labels, needs)))

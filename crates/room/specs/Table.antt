@@ -1,0 +1,77 @@
+-- The module table: records of one byte of kind and a body whose length the kind fixes.
+pub mod Checked
+pub mod Every
+pub mod Modules
+pub mod Reached
+pub mod Rules
+pub mod Walk
+use mathlib.Core.Bool.{Bool, true, false, cond, not, _&&_}
+use mathlib.Core.List.{List, [], _∷_}
+use Prim.Native.Nat.{ℕ, zero, suc, _+_}
+use lib.Dec.{eqb, leb}
+use lib.ListN.{length, take, drop}
+use Rattle.text.specs.Cut.{indexOf, before}
+use Rattle.catalogue.specs.Every.{every}
+use Rattle.catalogue.specs.Catalogue.{known, rowsOf}
+use Rattle.room.specs.declared.table.Module.{Module}
+use Rattle.room.specs.declared.table.ModuleFound.{ModuleFound}
+use Rattle.room.specs.declared.table.ModuleFound.the-variants.{At, Nothing}
+
+-- a label's byte: from 0x20 to 0x7E and no quote
+unfoldable pub labelByte : ℕ → Bool
+labelByte b = leb 0x20 b && leb b 0x7E && not (eqb b 0x22)
+
+-- a label has 1 to 32 bytes
+unfoldable pub labelRight : List ℕ → Bool
+labelRight s = leb 1 (length s) && leb (length s) 32 && every labelByte s
+
+unfoldable pub isZero : ℕ → Bool
+isZero b = eqb b 0
+
+-- a label's field: the label and then zero bytes
+unfoldable pub fieldSound : List ℕ → Bool
+fieldSound f = labelRight (before 0 f) && every isZero (drop (indexOf 0 f) f)
+
+-- how long a kind's body is
+unfoldable pub bodyLength : ℕ → ℕ
+bodyLength kind = 32
+
+-- a kind's body: the label's field
+unfoldable pub bodySound : ℕ → List ℕ → Bool
+bodySound kind body = known kind && eqb (length body) (bodyLength kind) && fieldSound body
+
+-- at most `left` records, and nothing else
+unfoldable pub recordsSound : (left : ℕ) → List ℕ → Bool
+recordsSound zero [] = true
+recordsSound zero (kind ∷ t) = false
+recordsSound (suc left) [] = true
+recordsSound (suc left) (kind ∷ t) = bodySound kind (take (bodyLength kind) t) && recordsSound left (drop (bodyLength kind) t)
+
+-- how many records a table may have
+unfoldable pub recordLimit : ℕ
+recordLimit = 64
+
+unfoldable pub sound : List ℕ → Bool
+sound t = recordsSound recordLimit t
+
+-- what a call on the table alone tells: 0, or 1, the refusal's number
+unfoldable pub tableNumber : List ℕ → ℕ
+tableNumber t = cond (sound t) 0 1
+
+-- the modules of at most `left` records: each with its number, the place of its record, its kind, and the number of its first value
+unfoldable pub modulesFrom : (left number place first : ℕ) → List ℕ → List Module
+modulesFrom zero number place first t = []
+modulesFrom (suc left) number place first [] = []
+modulesFrom (suc left) number place first (kind ∷ t) =
+    record { number = number; place = place; kind = kind; first = first } ∷
+    modulesFrom left (number + 1) (place + 1 + bodyLength kind) (first + length (rowsOf kind)) (drop (bodyLength kind) t)
+
+-- the modules of a sound table, in its order
+unfoldable pub modules : List ℕ → List Module
+modules t = modulesFrom recordLimit 0 0 0 t
+
+-- the module with a number
+unfoldable pub moduleAt : List Module → ℕ → ModuleFound
+moduleAt [] n = Nothing
+moduleAt (m ∷ ms) zero = At m
+moduleAt (m ∷ ms) (suc n) = moduleAt ms n

@@ -1,0 +1,147 @@
+-- The walk over a table's records: a running position, the record's number, and the number of its first value.
+use mathlib.Core.Path.{_≡_, refl}
+use mathlib.Core.Bool.{Bool, true, false, _&&_}
+use mathlib.Core.List.{List, [], _∷_}
+use Prim.Native.Nat.{ℕ, zero, suc, _+_, _-_, _*_, _≤_, _<_}
+use native.Mathlib.Numerals.{add-one}
+use native.Mathlib.Omega.{arith}
+use borrow.Author.Tests.{eqb-true, ltb-true, ltb-false}
+use mir.Syntax.{w64}
+use mir.Val.{Fits}
+use lib.Dec.{eqb, ltb}
+use lib.ListN.{length, getD, take, drop, length-take, length-drop, drop-of-length-le}
+use lib.Seq.{drop-cons, drop-drop}
+use Rattle.catalogue.specs.Catalogue.{known, rowsOf}
+use Rattle.catalogue.specs.Every.{both-left, both-right}
+use Rattle.catalogue.specs.Catalogue.Laws.{rows-few}
+use Rattle.room.specs.Table.{bodyLength, bodySound, fieldSound, modules, modulesFrom, recordLimit, recordsSound, sound}
+use Rattle.room.specs.declared.table.Module.{Module}
+
+-- the modules from the record at a place on
+unfoldable pub modulesAt : List ℕ → (number place first : ℕ) → List Module
+modulesAt t number place first = modulesFrom (64 - number) number place first (drop place t)
+
+-- the walk stands at a record of a sound table, or at its end
+pub record Walk (t : List ℕ) (number place first : ℕ) : Type 0 where
+  pub within : place ≤ length t
+  pub few : number ≤ 64
+  pub small : first ≤ 33 * number
+  pub rest : recordsSound (64 - number) (drop place t) ≡ true
+
+none : (left number place first : ℕ) → modulesFrom left number place first [] ≡ []
+unfolding modulesFrom
+none zero number place first = refl
+none (suc left) number place first = refl
+
+pub walk-start : (t : List ℕ) → sound t ≡ true → Walk t 0 0 0
+unfolding sound recordLimit
+walk-start t e = record { within = omega arith; few = omega arith; small = omega arith; rest = e }
+
+pub modules-start : (t : List ℕ) → modules t ≡ modulesAt t 0 0 0
+unfolding modules modulesAt recordLimit
+modules-start t = refl
+
+-- the first of some records
+record First (left kind : ℕ) (t : List ℕ) : Type 0 where
+  kinds : known kind ≡ true
+  room : bodyLength kind ≤ length t
+  body : bodySound kind (take (bodyLength kind) t) ≡ true
+  others : recordsSound left (drop (bodyLength kind) t) ≡ true
+
+first-record : (left kind : ℕ) (t : List ℕ) → recordsSound (suc left) (kind ∷ t) ≡ true → First left kind t
+unfolding recordsSound bodySound
+first-record left kind t e =
+    let size = bodyLength kind in
+    let sized = eqb (length (take size t)) size in
+    let b = both-left (bodySound kind (take size t)) (recordsSound left (drop size t)) e in
+    let ks = both-left (known kind && sized) (fieldSound (take size t)) b in
+    let l = eqb-true (length (take size t)) size (both-right (known kind) sized ks) in
+    record {
+      kinds = both-left (known kind) sized ks;
+      room = omega (arith, length-take size t);
+      body = b;
+      others = both-right (bodySound kind (take size t)) (recordsSound left (drop size t)) e;
+    }
+
+some-left : (left kind : ℕ) (t : List ℕ) → recordsSound left (kind ∷ t) ≡ true → 0 < left
+unfolding recordsSound
+some-left zero kind t e = absurd (let z : _≡_ {A = ℕ} 0 1 = cc in omega arith)
+some-left (suc left) kind t e = omega arith
+
+module _ (t : List ℕ) (number place first : ℕ) (w : Walk t number place first) (l : place < length t) where
+  pub walk-few : number < 64
+  walk-few =
+      let e : recordsSound (64 - number) (getD t place 0 ∷ drop (suc place) t) ≡ true = rw (drop-cons t place 0) at (w .rest) in
+      omega (arith, some-left (64 - number) (getD t place 0) (drop (suc place) t) e)
+
+  at-record : First (64 - (number + 1)) (getD t place 0) (drop (place + 1) t)
+  at-record =
+      let f = walk-few in
+      let n : 64 - number ≡ suc (64 - (number + 1)) = omega arith in
+      first-record (64 - (number + 1)) (getD t place 0) (drop (place + 1) t) (rw (drop-cons t place 0, ← add-one place, n) at (w .rest))
+
+  pub walk-known : known (getD t place 0) ≡ true
+  walk-known = at-record .kinds
+
+  pub walk-room : (size : ℕ) → size ≡ bodyLength (getD t place 0) → place + 1 + size ≤ length t
+  walk-room size e = omega (arith, at-record .room, length-drop (place + 1) t)
+
+  pub walk-body : (size : ℕ) → size ≡ bodyLength (getD t place 0) → bodySound (getD t place 0) (take size (drop (place + 1) t)) ≡ true
+  walk-body size e = rw e (at-record .body)
+
+  pub walk-next : (size rows : ℕ) → size ≡ bodyLength (getD t place 0) → rows ≡ length (rowsOf (getD t place 0))
+      → Walk t (number + 1) (place + 1 + size) (first + rows)
+  walk-next size rows e n =
+      record {
+        within = walk-room size e;
+        few = omega (arith, walk-few);
+        small = omega (arith, rows-few (getD t place 0) walk-known);
+        rest = rw (← e, drop-drop) at (at-record .others);
+      }
+
+  pub modules-next : (size rows : ℕ) → size ≡ bodyLength (getD t place 0) → rows ≡ length (rowsOf (getD t place 0))
+      → modulesAt t number place first ≡
+      record { number = number; place = place; kind = getD t place 0; first = first } ∷
+      modulesAt t (number + 1) (place + 1 + size) (first + rows)
+  unfolding modulesAt modulesFrom
+  modules-next size rows e n =
+      let f = walk-few in
+      let m : 64 - number ≡ suc (64 - (number + 1)) = omega arith in
+      rw (drop-cons t place 0, m, add-one place, drop-drop, e, n)
+
+  -- the next record's place and first value are numbers of the machine
+  pub place-fits : (size : ℕ) → size ≡ bodyLength (getD t place 0) → length t < 18446744073709551616 → Fits w64 (place + 1 + size)
+  place-fits size e b = record { fits = omega (arith, walk-room size e) }
+
+  pub first-fits : (rows : ℕ) → rows ≡ length (rowsOf (getD t place 0)) → Fits w64 (first + rows)
+  first-fits rows n = record { fits = omega (arith, rows-few (getD t place 0) walk-known, walk-few) }
+
+pub modules-end : (t : List ℕ) (number place first : ℕ) → length t ≤ place → modulesAt t number place first ≡ []
+unfolding modulesAt
+modules-end t number place first l = rw (drop-of-length-le t l) (none (64 - number) number place first)
+
+-- what holds at the end, and at a record if at the next one, holds at every record
+module _ (t : List ℕ) (P : (number place first : ℕ) → Type 0)
+    (last : (number place first : ℕ) → length t ≤ place → P number place first)
+    (more : (number place first : ℕ) → Walk t number place first → place < length t
+    → P (number + 1) (place + 1 + bodyLength (getD t place 0)) (first + length (rowsOf (getD t place 0))) → P number place first) where
+  by-turns : (left number place first : ℕ) → Walk t number place first → 64 ≤ number + left → P number place first
+  by-turns zero number place first w h = last number place first (past (ltb place (length t)) refl)
+    where
+      past : (b : Bool) → ltb place (length t) ≡ b → length t ≤ place
+      past true e = omega (arith, walk-few t number place first w (ltb-true place (length t) e))
+      past false e = ltb-false place (length t) e
+  by-turns (suc left) number place first w h =
+      turn (λ l. by-turns left (number + 1) (place + 1 + bodyLength (getD t place 0)) (first + length (rowsOf (getD t place 0)))
+      (walk-next t number place first w l (bodyLength (getD t place 0)) (length (rowsOf (getD t place 0))) refl refl) (omega arith))
+      (ltb place (length t)) refl
+    where
+      turn : (place < length t → P (number + 1) (place + 1 + bodyLength (getD t place 0)) (first + length (rowsOf (getD t place 0))))
+          → (b : Bool) → ltb place (length t) ≡ b → P number place first
+      turn next true e = more number place first w (ltb-true place (length t) e) (next (ltb-true place (length t) e))
+      turn next false e = last number place first (ltb-false place (length t) e)
+
+  pub walk-induction : (number place first : ℕ) → Walk t number place first → P number place first
+  walk-induction number place first w = by-turns 64 number place first w (omega arith)
+
+pub ruleset walking = (walk-start, walk-known, walk-room, walk-next, place-fits, first-fits)

@@ -1,0 +1,86 @@
+-- Laws of cutting at a byte.
+use mathlib.Core.Path.{_≡_, refl, sym, _∙_, ap}
+use mathlib.Core.Bool.{Bool, true, false, cond, _&&_}
+use mathlib.Core.List.{List, [], _∷_, _++_}
+use Prim.Native.Nat.{ℕ, suc, _+_, _≤_, _<_}
+use native.Mathlib.Numerals.{add-one}
+use native.Mathlib.Nat.{zero-add}
+use native.Mathlib.Omega.{arith}
+use borrow.Author.Tests.{eq-eqb, ne-eqb}
+use lib.Dec.{eqb}
+use lib.ListN.{length, getD, drop, drop-of-length-le}
+use lib.Seq.{drop-cons}
+use Rattle.text.specs.Cut.{indexOf, every}
+
+at-head : (b x : ℕ) (s : List ℕ) → x ≡ b → indexOf b (x ∷ s) ≡ 0
+unfolding indexOf
+at-head b x s h = rw (eq-eqb x b h)
+
+past-head : (b x : ℕ) (s : List ℕ) → (x ≡ b → ⊥) → indexOf b (x ∷ s) ≡ suc (indexOf b s)
+unfolding indexOf
+past-head b x s h = rw (ne-eqb x b h)
+
+-- a search has passed i bytes of s, none of them b
+pub record Searched (b : ℕ) (s : List ℕ) (i : ℕ) : Type 0 where
+  pub within : i ≤ length s
+  pub rest : indexOf b s ≡ i + indexOf b (drop i s)
+
+pub searched-start : (b : ℕ) (s : List ℕ) → Searched b s 0
+searched-start b s = record { within = omega arith; rest = sym (zero-add (indexOf b s)) }
+
+pub searched-next : (b : ℕ) (s : List ℕ) (i : ℕ) → Searched b s i → i < length s → (getD s i 0 ≡ b → ⊥) → Searched b s (i + 1)
+searched-next b s i h l n =
+    let e : indexOf b (drop i s) ≡ suc (indexOf b (drop (i + 1) s)) = rw (add-one, drop-cons s i 0) (past-head b (getD s i 0) (drop (suc i) s) n) in
+    record { within = omega arith; rest = omega (arith, h .rest) }
+
+pub searched-found : (b : ℕ) (s : List ℕ) (i : ℕ) → Searched b s i → i < length s → getD s i 0 ≡ b → i ≡ indexOf b s
+searched-found b s i h l n =
+    let e : indexOf b (drop i s) ≡ 0 = rw (drop-cons s i 0) (at-head b (getD s i 0) (drop (suc i) s) n) in
+    omega (arith, h .rest)
+
+nothing : (b : ℕ) → indexOf b [] ≡ 0
+unfolding indexOf
+nothing b = refl
+
+pub searched-all : (b : ℕ) (s : List ℕ) (i : ℕ) → Searched b s i → length s ≤ i → i ≡ indexOf b s
+searched-all b s i h l =
+    let e : indexOf b (drop i s) ≡ 0 = rw (drop-of-length-le s l) (nothing b) in
+    omega (arith, h .rest)
+
+pub ruleset searching = (searched-start, searched-next, searched-found, searched-all)
+
+-- ---- a byte that is not there
+
+pub both : (a b : Bool) → a && b ≡ true → (a ≡ true) × (b ≡ true)
+both true b h = (refl, h)
+both false b h = absurd (let z : _≡_ {A = ℕ} 0 1 = cc in omega arith)
+
+pub every-both : (test : ℕ → Bool) (x : ℕ) (s : List ℕ) → every test (x ∷ s) ≡ true → (test x ≡ true) × (every test s ≡ true)
+unfolding every
+every-both test x s h = both (test x) (every test s) h
+
+pub every-append : (test : ℕ → Bool) (s t : List ℕ) → every test s ≡ true → every test t ≡ true → every test (s ++ t) ≡ true
+unfolding every
+every-append test [] t p q = q
+every-append test (x ∷ s) t p q =
+    let h = every-both test x s p in
+    rw (h .0) (every-append test s t (h .1) q)
+
+-- where every byte passes a test that b fails, b is not there
+pub index-none : (test : ℕ → Bool) (b : ℕ) (s : List ℕ) → every test s ≡ true → test b ≡ false → indexOf b s ≡ length s
+index-none test b [] h n = nothing b
+index-none test b (x ∷ s) h n =
+    let k = every-both test x s h in
+    let differ : x ≡ b → ⊥ = λ e. let z : true ≡ false = sym (k .0) ∙ ap test e ∙ n in absurd (let y : _≡_ {A = ℕ} 0 1 = cc in omega arith) in
+    past-head b x s differ ∙ ap suc (index-none test b s (k .1) n)
+
+-- b is first met behind a part that has none
+pub index-behind : (b : ℕ) (s t : List ℕ) → indexOf b s ≡ length s → indexOf b (s ++ t) ≡ length s + indexOf b t
+unfolding indexOf
+index-behind b [] t h = sym (zero-add (indexOf b t))
+index-behind b (x ∷ s) t h = go (eqb x b) refl (index-behind b s t) h
+  where
+    go : (e : Bool) → eqb x b ≡ e → (indexOf b s ≡ length s → indexOf b (s ++ t) ≡ length s + indexOf b t)
+        → cond e 0 (suc (indexOf b s)) ≡ suc (length s) → cond (eqb x b) 0 (suc (indexOf b (s ++ t))) ≡ suc (length s) + indexOf b t
+    go true e f h = absurd (omega arith)
+    go false e f h = let i = f (omega arith) in rw e (omega arith)
