@@ -77,8 +77,8 @@ pub fn parameter_at(table: &[u8], rows: &[[i32; 8]; 50], k: usize) -> ParameterF
         let kind = table[place];
         let count = row_count(kind);
         if k - first < count {
-            let j = k - first;
-            let row = row_of(rows, kind, j);
+            let within = k - first;
+            let row = row_of(rows, kind, within);
             let owner = Module {
                 number,
                 place,
@@ -87,7 +87,7 @@ pub fn parameter_at(table: &[u8], rows: &[[i32; 8]; 50], k: usize) -> ParameterF
             };
             return ParameterFound::At(Parameter {
                 owner,
-                number: j,
+                number: within,
                 row,
             });
         }
