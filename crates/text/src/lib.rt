@@ -4,6 +4,6 @@ mod digit;
 pub mod length;
 pub mod level;
 pub mod number;
-mod sign;
+pub mod sign;
 pub mod switch;
 pub mod write;

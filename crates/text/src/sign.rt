@@ -17,7 +17,7 @@ pub(crate) fn with_sign(minus: bool, n: u64) -> i64
 }
 
 // How far `v` is from 0, also where `v` is the lowest number.
-pub(crate) fn magnitude(v: i64) -> u64
+pub fn magnitude(v: i64) -> u64
     ensures { λ r. ⌜ r ≡ natAbs v ⌝ }
 {
     if v < 0 {

@@ -2,7 +2,7 @@
 use mathlib.Core.Path.{_≡_, refl, ap, sym, _∙_}
 use mathlib.Core.Bool.{true}
 use mathlib.Core.List.{List, [], _∷_}
-use Prim.Native.Nat.{ℕ, zero, suc}
+use Prim.Native.Nat.{ℕ, zero, suc, _<_}
 use native.Mathlib.Omega.{arith}
 use borrow.Author.Tests.{eqb-true}
 use lib.Dec.{eqb}
@@ -53,3 +53,17 @@ value-permitted t vs k p v e =
     let long = eqb (length vs) (length (parameters t)) in
     let each = eachPermitted (parameters t) vs in
     each-at (parameters t) vs k p (eqb-true (length vs) (length (parameters t)) (both-left long each v)) e (both-right long each v)
+
+-- a parameter's place is a place of the value list
+at-inside : (ps : List Parameter) (k : ℕ) (p : Parameter) → parameterAt ps k ≡ At p → k < length ps
+unfolding parameterAt
+at-inside [] k p e = never-found p e
+at-inside (q ∷ ps) zero p e = omega arith
+at-inside (q ∷ ps) (suc k) p e = let l = at-inside ps k p e in omega arith
+
+pub value-inside : (t : List ℕ) (vs : List ℤ) (k : ℕ) (p : Parameter) → valuesSound t vs ≡ true → parameterAt (parameters t) k ≡ At p → k < length vs
+unfolding valuesSound
+value-inside t vs k p v e =
+    let long = eqb-true (length vs) (length (parameters t)) (both-left (eqb (length vs) (length (parameters t))) (eachPermitted (parameters t) vs) v) in
+    let inside = at-inside (parameters t) k p e in
+    omega arith

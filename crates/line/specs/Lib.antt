@@ -1,0 +1,10 @@
+-- What one line means, and what it is answered with.
+pub mod Shape
+pub mod IndexPart
+pub mod Value
+pub mod Meaning
+pub mod Reply
+pub mod Answer
+pub mod Say
+pub mod Log
+pub mod Worked
