@@ -1,6 +1,7 @@
 -- The value list: one value for each parameter, in the parameters' order.
 pub mod Fitting
 pub mod Laws
+pub mod Right
 pub mod Starting
 pub mod Testing
 use mathlib.Core.Bool.{Bool, true, false, _&&_}

@@ -1,0 +1,38 @@
+-- Rules for the code that starts the program: a table that was tested, and the start values over it.
+use mathlib.Core.Path.{_≡_, sym, _∙_, ap}
+use mathlib.Core.Bool.{Bool, true, false, not}
+use mathlib.Core.List.{List, _++_}
+use Prim.Native.Nat.{ℕ, _≤_}
+use native.Mathlib.Omega.{arith}
+use borrow.Author.Tests.{not-false}
+use lib.IntN.{ℤ}
+use lib.ListN.{length, take, drop, length-append}
+use lib.Seq.{length-take-le, take-at}
+use Rattle.room.specs.Table.{sound}
+use Rattle.room.specs.Values.{Started, starts, valuesSound}
+use Rattle.room.specs.Values.Right.{starts-few, starts-right}
+
+-- a test that was passed
+pub test-held : (b s : Bool) → b ≡ s → not b ≡ false → s ≡ true
+test-held b s e n = sym e ∙ not-false b n
+
+pub part-counts : (l : List ℕ) (n : ℕ) → n ≤ length l → n ≡ length (take n l)
+part-counts l n h = sym (length-take-le n l h)
+
+pub ruleset table-rules = (test-held, part-counts)
+
+-- there is room for every start value
+pub starts-room : (t : List ℕ) (l : List ℤ) → sound t ≡ true → 2112 ≡ length l → length (starts t) ≤ length l
+starts-room t l s e = omega (arith, starts-few t s)
+
+module _ (t : List ℕ) (before : List ℤ) (n : ℕ) (after : List ℤ) (s : Started t before n after) where
+  pub started-within : n ≤ length after
+  started-within = omega (arith, s .count, ap length (s .list), length-append (starts t) (drop (length (starts t)) before))
+
+  pub started-part : n ≡ length (take n after)
+  started-part = sym (length-take-le n after started-within)
+
+  pub started-right : valuesSound t (take n after) ≡ true
+  started-right = rw (s .list, take-at (starts t) (drop (length (starts t)) before) n (sym (s .count))) (starts-right t)
+
+pub ruleset start-rules = (starts-room, started-within, started-part, started-right)

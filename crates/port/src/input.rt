@@ -1,0 +1,119 @@
+// Serving standard input: what a read gives is answered whole before the next.
+use catalogue::rows::all_rows;
+use libc::STDIN_FILENO;
+use libc::STDOUT_FILENO;
+use room::values::fill_starts;
+use serial_port::port::Port;
+use serial_port::stream::serve_all;
+ghost use mathlib.Core.Bool.{true};
+ghost use mathlib.Core.Path.{_≡_};
+ghost use Prim.Native.Nat.{_≤_};
+ghost use lib.ListN.{length};
+ghost use Rattle.catalogue.specs.Catalogue.{numbers};
+ghost use Rattle.room.specs.Table.{sound};
+ghost use Rattle.room.specs.Values.{valuesSound};
+ghost use Rattle.port.specs.Input.{Kept};
+
+// The port after some bytes, and whether their replies could be written.
+struct Answered {
+    port: Port,
+    written: bool,
+}
+
+// Answers the given bytes: their replies are written as they fill `out`.
+fn answer_bytes(
+    table: &[u8],
+    rows: &[[i32; 8]; 50],
+    values: &mut [i64],
+    port: Port,
+    given: &[u8],
+    out: &mut [u8],
+) -> Answered
+    requires { ⌜ (sound (now table) ≡ true) × (now rows ≡ numbers) × (valuesSound (now table) (now values) ≡ true) ⌝ }
+    requires { ⌜ (port .len ≤ 64) × (64 ≤ length (now out)) ⌝ }
+    ensures { λ r. ⌜ Kept (now (table .entry)) (now (values .exit)) (r .port) ⌝ }
+{
+    let mut port = port;
+    let mut at = 0;
+    while at < given.len() {
+        let served = serve_all(table, rows, values, port, &given[at..], out);
+        port = served.port;
+        at += served.consumed;
+        let length = served.length;
+        if !io::write_all(STDOUT_FILENO, &out[..length]) {
+            return Answered {
+                port: port,
+                written: false,
+            };
+        }
+    }
+    Answered {
+        port: port,
+        written: true,
+    }
+}
+
+// Answers one read, and tells whether there may be more.
+fn answer_read(
+    table: &[u8],
+    rows: &[[i32; 8]; 50],
+    values: &mut [i64],
+    port: Port,
+    input: &mut [u8],
+    out: &mut [u8],
+) -> Answered
+    requires { ⌜ (sound (now table) ≡ true) × (now rows ≡ numbers) × (valuesSound (now table) (now values) ≡ true) ⌝ }
+    requires { ⌜ (port .len ≤ 64) × (64 ≤ length (now out)) ⌝ }
+    ensures { λ r. ⌜ Kept (now (table .entry)) (now (values .exit)) (r .port) ⌝ }
+{
+    let got = libc::read(STDIN_FILENO, input);
+    let count = io::count(got, input);
+    if count == 0 {
+        return Answered {
+            port: port,
+            written: false,
+        };
+    }
+    answer_bytes(table, rows, values, port, &input[..count], out)
+}
+
+// A proved loop has to end, and nothing says that the input does. So the loop counts its turns down, from a number that no run uses up.
+fn answer_all(
+    table: &[u8],
+    rows: &[[i32; 8]; 50],
+    values: &mut [i64],
+    input: &mut [u8],
+    out: &mut [u8],
+)
+    requires { ⌜ (sound (now table) ≡ true) × (now rows ≡ numbers) × (valuesSound (now table) (now values) ≡ true) ⌝ }
+    requires { ⌜ 64 ≤ length (now out) ⌝ }
+{
+    let mut port = Port::fresh();
+    let mut turns = u64::MAX;
+    while turns > 0 {
+        let answered = answer_read(table, rows, values, port, input, out);
+        if !answered.written {
+            return;
+        }
+        port = answered.port;
+        turns -= 1;
+    }
+}
+
+fn value_list() -> [i64; 2112]
+    ensures { λ r. ⌜ 2112 ≡ length r ⌝ }
+{
+    [0; 2112]
+}
+
+// Serves standard input from the start values on.
+pub fn serve_input(table: &[u8])
+    requires { ⌜ sound (now table) ≡ true ⌝ }
+{
+    let rows = all_rows();
+    let mut space = value_list();
+    let count = fill_starts(table, &rows, &mut space);
+    let mut input = io::large_buffer();
+    let mut out = io::large_buffer();
+    answer_all(table, &rows, &mut space[..count], &mut input, &mut out);
+}

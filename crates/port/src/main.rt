@@ -1,0 +1,30 @@
+// Serves the lines of standard input over the module table in the file `table`, and writes the replies alone.
+mod input;
+mod table;
+
+use input::serve_input;
+use libc::STDOUT_FILENO;
+use room::table::is_sound;
+use table::read_file;
+use table::table_buffer;
+
+// How many bytes a table may have.
+const TABLE: usize = 2112;
+
+fn refuse() {
+    io::write_all(STDOUT_FILENO, b"refused 1\r");
+}
+
+fn main() {
+    let mut space = table_buffer();
+    let length = read_file(b"table", &mut space);
+    if TABLE < length {
+        refuse();
+        return;
+    }
+    if !is_sound(&space[..length]) {
+        refuse();
+        return;
+    }
+    serve_input(&space[..length]);
+}

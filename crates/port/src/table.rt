@@ -1,0 +1,43 @@
+// Reading the module table from its file.
+ghost use mathlib.Core.Path.{_≡_};
+ghost use Prim.Native.Nat.{_≤_};
+ghost use lib.ListN.{length};
+
+// Room for the longest table and one byte more, by which a longer one is seen.
+pub fn table_buffer() -> [u8; 2113]
+    ensures { λ r. ⌜ 2113 ≡ length r ⌝ }
+{
+    [0; 2113]
+}
+
+// Reads until the file ends or the buffer is full, and tells how many bytes came; all of the buffer where a read fails.
+fn read_to_end(fd: i32, buffer: &mut [u8]) -> usize
+    ensures { λ r. ⌜ r ≤ length (now (buffer .exit)) ⌝ }
+{
+    let mut at = 0;
+    while at < buffer.len() {
+        let got = libc::read(fd, &mut buffer[at..]);
+        if got < 0 {
+            return buffer.len();
+        }
+        let count = io::count(got, &buffer[at..]);
+        if count == 0 {
+            return at;
+        }
+        at += count;
+    }
+    at
+}
+
+// The length of a file that was read into the buffer; all of the buffer where it is missing, can't be read or is longer.
+pub fn read_file(path: &[u8], buffer: &mut [u8]) -> usize
+    ensures { λ r. ⌜ r ≤ length (now (buffer .exit)) ⌝ }
+{
+    let fd = os::open_read(path);
+    if fd < 0 {
+        return buffer.len();
+    }
+    let length = read_to_end(fd, buffer);
+    libc::close(fd);
+    length
+}

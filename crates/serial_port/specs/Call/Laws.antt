@@ -1,0 +1,78 @@
+-- Laws of one call.
+use mathlib.Core.Path.{_≡_, refl, sym, _∙_}
+use mathlib.Core.Bool.{true, false}
+use mathlib.Core.List.{List, []}
+use Prim.Native.Nat.{ℕ, suc, _+_, _≤_}
+use native.Mathlib.Omega.{arith}
+use borrow.Author.Tests.{le-leb}
+use lib.IntN.{ℤ}
+use lib.ListN.{length, take, drop}
+use lib.Seq.{sets, sets-eq, take-at}
+use Rattle.text.specs.Cut.{has, indexOf, before}
+use Rattle.room.specs.Table.{sound}
+use Rattle.room.specs.Values.{valuesSound}
+use Rattle.line.specs.Shape.{lineLimit}
+use Rattle.line.specs.Reply.{nak}
+use Rattle.line.specs.Answer.{answer}
+use Rattle.line.specs.Answer.Replies.{reply-limit}
+use Rattle.serial_port.specs.Port.{View, held, over, view, Same, claim, join}
+use Rattle.serial_port.specs.Port.Laws.{claim-view, join-nothing, same-seen, seen-same}
+use Rattle.serial_port.specs.Call.{Answering, step, replied, waiting, finish, replyLimit, callNumber, call, Handed}
+use Rattle.serial_port.specs.declared.port.Port.{Port}
+
+-- when no refusal applies
+pub accepted : (t : List ℕ) (vs : List ℤ) (replyRoom claimed : ℕ) → sound t ≡ true → valuesSound t vs ≡ true
+    → replyLimit ≤ replyRoom → claimed ≤ lineLimit → callNumber t vs replyRoom claimed ≡ 0
+unfolding callNumber
+accepted t vs replyRoom claimed s p h k = rw (s, p, le-leb replyLimit replyRoom h, le-leb claimed lineLimit k) refl
+
+-- of a port's claim, only whether it is over 64 counts: a port and its view are refused alike
+pub refused-alike : (t : List ℕ) (vs : List ℤ) (replyRoom claimed other : ℕ) → claimed ≤ lineLimit → other ≤ lineLimit
+    → callNumber t vs replyRoom claimed ≡ callNumber t vs replyRoom other
+unfolding callNumber
+refused-alike t vs replyRoom claimed other h k = rw (le-leb claimed lineLimit h, le-leb other lineLimit k) refl
+
+pub number-view : (t : List ℕ) (vs : List ℤ) (replyRoom : ℕ) (p : Port) → p .len ≤ lineLimit
+    → callNumber t vs replyRoom (p .len) ≡ callNumber t vs replyRoom (claim (view p))
+number-view t vs replyRoom p h = refused-alike t vs replyRoom (p .len) (claim (view p)) h (claim-view p h)
+
+-- the two kinds of call
+pub step-finishes : (answer : Answering) (vs : List ℤ) (v : View) (bs : List ℕ) → has 0x0D bs ≡ true
+    → step answer vs v bs ≡ replied (suc (indexOf 0x0D bs)) (finish answer vs (join v (before 0x0D bs)))
+unfolding step
+step-finishes answer vs v bs h = rw h refl
+
+pub step-waits : (answer : Answering) (vs : List ℤ) (v : View) (bs : List ℕ) → has 0x0D bs ≡ false
+    → step answer vs v bs ≡ waiting vs (length bs) (join v bs)
+unfolding step
+step-waits answer vs v bs h = rw h refl
+
+-- zero bytes given change nothing
+pub step-nothing : (answer : Answering) (vs : List ℤ) (v : View) → claim v ≤ lineLimit → step answer vs v [] ≡ waiting vs 0 v
+unfolding step has indexOf
+step-nothing answer vs v h = rw (join-nothing v h) refl
+
+-- ---- the reply
+
+-- what was written at the start of a buffer
+pub written-first : (buffer l : List ℕ) → length l ≤ length buffer → take (length l) (sets buffer 0 l) ≡ l
+written-first buffer l h = rw (sets-eq l buffer 0 (omega arith)) (take-at l (drop (0 + length l) buffer) (length l) refl)
+
+-- every reply fits a buffer of 64 bytes
+pub reply-fits : (t : List ℕ) (vs : List ℤ) (v : View) → sound t ≡ true → valuesSound t vs ≡ true
+    → length (finish (answer t) vs v .reply) ≤ replyLimit
+unfolding finish replyLimit nak
+reply-fits t vs (held l) s r = omega (arith, reply-limit t vs l s r)
+reply-fits t vs over s r = omega arith
+
+-- ---- ports that count as the same
+
+-- a call does not tell them apart where neither claims over 64 bytes
+pub same-call : (t : List ℕ) (vs : List ℤ) (p q : Port) (bs buffer : List ℕ) → p .len ≤ lineLimit → q .len ≤ lineLimit → Same p q
+    → call t vs p bs buffer ≡ call t vs q bs buffer
+unfolding call
+same-call t vs p q bs buffer h k s = rw (same-seen p q s, refused-alike t vs (length buffer) (p .len) (q .len) h k) refl
+
+-- an accepted call fixes the port that it hands back so far
+pub same-handed : (p : Port) (v : View) (q r : Port) → Handed 0 p v q → Handed 0 p v r → Same q r
+same-handed p v q r h k = seen-same q r (h .1) (k .1) (h .0 ∙ sym (k .0))

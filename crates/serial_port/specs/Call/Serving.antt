@@ -1,0 +1,152 @@
+-- Rules for the code of a call: its number, and the ways in which it returns.
+use mathlib.Core.Path.{_≡_, refl, sym, _∙_}
+use mathlib.Core.Bool.{Bool, true, false, not, cond}
+use mathlib.Core.List.{List, [], _∷_}
+use Prim.Native.Nat.{ℕ, suc, _+_, _≤_, _<_}
+use native.Mathlib.Nat.{zero-add}
+use native.Mathlib.Numerals.{add-one}
+use native.Mathlib.Omega.{arith}
+use borrow.Author.Tests.{not-true, not-false, leb-true, lt-ltb, le-ltb}
+use lib.Dec.{eqb, leb}
+use lib.IntN.{ℤ}
+use lib.ListN.{length, take}
+use lib.Seq.{length-take-le, take-length}
+use mir.Syntax.{w64}
+use mir.Val.{Fits}
+use Rattle.text.specs.Cut.{indexOf, has, before}
+use Rattle.room.specs.Table.{sound}
+use Rattle.room.specs.Values.{valuesSound}
+use Rattle.line.specs.Shape.{lineLimit}
+use Rattle.line.specs.Answer.{answer}
+use Rattle.serial_port.specs.Port.{view, fresh}
+use Rattle.serial_port.specs.Port.Collecting.{Collects}
+use Rattle.serial_port.specs.Call.{Answers, callNumber, finish, replyLimit}
+use Rattle.serial_port.specs.Call.Finishing.{Finishes}
+use Rattle.serial_port.specs.Call.Laws.{accepted}
+use Rattle.serial_port.specs.Call.Rules.{number-table, number-values, number-buffer, number-claim, returns-refused, returns-waiting, returns-finished}
+use Rattle.serial_port.specs.declared.port.Port.{Port}
+
+-- ---- the number
+
+-- a test that was passed
+pub test-held : (b s : Bool) → b ≡ s → not b ≡ false → s ≡ true
+test-held b s e n = sym e ∙ not-false b n
+
+module _ (t : List ℕ) (vs : List ℤ) (replyRoom claimed : ℕ) (a : Bool) (ea : a ≡ sound t) where
+  pub tells-table : not a ≡ true → 1 ≡ callNumber t vs replyRoom claimed
+  tells-table n = sym (number-table t vs replyRoom claimed (sym ea ∙ not-true a n))
+
+  module _ (na : not a ≡ false) (b : Bool) (eb : b ≡ valuesSound t vs) where
+    pub tells-values : not b ≡ true → 2 ≡ callNumber t vs replyRoom claimed
+    tells-values n = sym (number-values t vs replyRoom claimed (test-held a (sound t) ea na) (sym eb ∙ not-true b n))
+
+    module _ (nb : not b ≡ false) where
+      pub tells-buffer : replyRoom < 64 → 3 ≡ callNumber t vs replyRoom claimed
+      unfolding replyLimit
+      tells-buffer h =
+          sym (number-buffer t vs replyRoom claimed (test-held a (sound t) ea na) (test-held b (valuesSound t vs) eb nb) h)
+
+      pub tells-claim : 64 ≤ replyRoom → 64 < claimed → 4 ≡ callNumber t vs replyRoom claimed
+      unfolding replyLimit lineLimit
+      tells-claim h k =
+          sym (number-claim t vs replyRoom claimed (test-held a (sound t) ea na) (test-held b (valuesSound t vs) eb nb) h k)
+
+      pub tells-none : 64 ≤ replyRoom → claimed ≤ 64 → 0 ≡ callNumber t vs replyRoom claimed
+      unfolding replyLimit lineLimit
+      tells-none h k =
+          sym (accepted t vs replyRoom claimed (test-held a (sound t) ea na) (test-held b (valuesSound t vs) eb nb) h k)
+
+pub ruleset telling = (test-held, tells-table, tells-values, tells-buffer, tells-claim, tells-none)
+
+-- ---- a call with its number
+
+abbrev Accepts : List ℕ → List ℤ → ℕ → ℕ → Type 0
+Accepts t vs replyRoom claimed = (sound t ≡ true) × (valuesSound t vs ≡ true) × (64 ≤ replyRoom) × (claimed ≤ 64)
+
+accepts : (t : List ℕ) (vs : List ℤ) (replyRoom claimed : ℕ) → callNumber t vs replyRoom claimed ≡ 0 → Accepts t vs replyRoom claimed
+unfolding callNumber replyLimit lineLimit
+accepts t vs replyRoom claimed e = go (sound t) (valuesSound t vs) (leb 64 replyRoom) (leb claimed 64) refl refl refl refl e
+  where
+    go : (a b c d : Bool) → sound t ≡ a → valuesSound t vs ≡ b → leb 64 replyRoom ≡ c → leb claimed 64 ≡ d
+        → _≡_ {A = ℕ} (cond a (cond b (cond c (cond d 0 4) 3) 2) 1) 0 → Accepts t vs replyRoom claimed
+    go true true true true p q r s e = (p, q, leb-true 64 replyRoom r, leb-true claimed 64 s)
+    go true true true false p q r s e = absurd (omega arith)
+    go true true false d p q r s e = absurd (omega arith)
+    go true false c d p q r s e = absurd (omega arith)
+    go false b c d p q r s e = absurd (omega arith)
+
+module _ (t : List ℕ) (vs : List ℤ) (p : Port) (bs buffer : List ℕ) (n : ℕ) (e : n ≡ callNumber t vs (length buffer) (p .len)) where
+  pub taken-refused : (n ≡ 0 → ⊥) → Answers t vs p bs buffer (record { port = p; consumed = 0; length = 0; number = n }) vs buffer
+  taken-refused h = returns-refused t vs p bs buffer n (sym e) h
+
+module _ (t : List ℕ) (vs : List ℤ) (replyRoom claimed n : ℕ) (e : n ≡ callNumber t vs replyRoom claimed) (z : n ≡ 0) where
+  pub taken-table : sound t ≡ true
+  taken-table = accepts t vs replyRoom claimed (sym e ∙ z) .0
+
+  pub taken-values : valuesSound t vs ≡ true
+  taken-values = accepts t vs replyRoom claimed (sym e ∙ z) .1
+
+  pub taken-buffer : 64 ≤ replyRoom
+  taken-buffer = accepts t vs replyRoom claimed (sym e ∙ z) .2
+
+  pub taken-claim : claimed ≤ 64
+  taken-claim = accepts t vs replyRoom claimed (sym e ∙ z) .3
+
+pub ruleset taking = (taken-refused, taken-table, taken-values, taken-buffer, taken-claim)
+
+-- ---- a call that is served
+
+index-within : (b : ℕ) (s : List ℕ) → indexOf b s ≤ length s
+unfolding indexOf
+index-within b [] = omega arith
+index-within b (x ∷ s) = go (eqb x b) (index-within b s)
+  where
+    go : (t : Bool) → indexOf b s ≤ length s → cond t 0 (suc (indexOf b s)) ≤ suc (length s)
+    go true l = omega arith
+    go false l = omega arith
+
+module _ (bs : List ℕ) (end : ℕ) (e : end ≡ indexOf 0x0D bs) where
+  pub line-part : end ≡ length (take end bs)
+  line-part = sym (length-take-le end bs (omega (arith, index-within 0x0D bs)))
+
+  pub end-fits : (end ≡ length bs → ⊥) → length bs < 18446744073709551616 → Fits w64 (end + 1)
+  end-fits h k = record { fits = omega (arith, index-within 0x0D bs) }
+
+  line-before : take end bs ≡ before 0x0D bs
+  unfolding before
+  line-before = rw e refl
+
+  has-none : end ≡ length bs → has 0x0D bs ≡ false
+  unfolding has
+  has-none h = le-ltb (indexOf 0x0D bs) (length bs) (omega arith)
+
+  has-one : (end ≡ length bs → ⊥) → has 0x0D bs ≡ true
+  unfolding has
+  has-one h = lt-ltb (indexOf 0x0D bs) (length bs) (omega (arith, index-within 0x0D bs))
+
+  module _ (t : List ℕ) (vs : List ℤ) (p : Port) (buffer : List ℕ) (q : Port) (s : sound t ≡ true) (v : valuesSound t vs ≡ true)
+      (h : 64 ≤ length buffer) (k : p .len ≤ 64) (c : Collects p (take end bs) q) where
+    number : callNumber t vs (length buffer) (p .len) ≡ 0
+    unfolding replyLimit lineLimit
+    number = accepted t vs (length buffer) (p .len) s v h k
+
+    pub served-waiting : end ≡ length bs → Answers t vs p bs buffer (record { port = q; consumed = end; length = 0; number = 0 }) vs buffer
+    served-waiting w =
+        let all : take end bs ≡ bs = rw (w, take-length) in
+        rw w (returns-waiting t vs p bs buffer q number (has-none w) (rw all at (c .seen)) (c .few))
+
+    pub served-finished : (n : ℕ) (vs′ : List ℤ) (buffer′ : List ℕ) (r : Port) → (end ≡ length bs → ⊥) → Finishes t vs q buffer n vs′ buffer′ → view r ≡ fresh
+        → r .len ≡ 0 → Answers t vs p bs buffer (record { port = r; consumed = end + 1; length = n; number = 0 }) vs′ buffer′
+    unfolding lineLimit
+    served-finished n vs′ buffer′ r w f fr z =
+        let seen = rw line-before at (c .seen) in
+        let g = f .reply in
+        rw (add-one end, e)
+        (returns-finished t vs p bs buffer r n vs′ buffer′ number (has-one w)
+        (rw seen at (g .past ∙ zero-add (length (finish (answer t) vs (view q) .reply)))) (rw seen at (f .values)) (rw seen at (g .bytes)) fr (omega arith))
+
+pub served-few : (p : Port) (bs : List ℕ) (q : Port) → Collects p bs q → q .len ≤ 64
+unfolding lineLimit
+served-few p bs q c = c .few
+
+pub ruleset serving = (line-part, end-fits, served-waiting, served-finished, served-few)

@@ -1,0 +1,147 @@
+-- Feeding byte by byte: up to the first 0D of a sequence, sequences cut anywhere, and lines one after the other.
+use mathlib.Core.Path.{_≡_, refl, sym, _∙_, ap}
+use mathlib.Core.Bool.{Bool, true, false, true≢false}
+use mathlib.Core.List.{List, [], _∷_, _++_}
+use Prim.Native.Nat.{ℕ, suc, _≤_, _<_}
+use native.Mathlib.Omega.{arith}
+use borrow.Author.Tests.{lt-ltb}
+use lib.Dec.{eqb, leb·suc-suc}
+use lib.IntN.{ℤ}
+use lib.ListN.{length}
+use Rattle.text.specs.Cut.{has, indexOf, before, after}
+use Rattle.line.specs.Shape.{lineLimit}
+use Rattle.line.specs.Reply.{nak}
+use Rattle.line.specs.Answer.{Answer}
+use Rattle.serial_port.specs.Port.{View, fresh, claim, join}
+use Rattle.serial_port.specs.Port.Laws.{fresh-few, join-nothing, join-join, join-fresh, join-overruns, claim-join}
+use Rattle.serial_port.specs.Call.{Answering, finish}
+use Rattle.serial_port.specs.Play.{Played, ended, replyFirst, feed}
+
+-- ---- the first 0D of a sequence, by its first byte
+
+pub has-nothing : has 0x0D [] ≡ false
+unfolding has indexOf
+has-nothing = refl
+
+pub has-cons : (b : ℕ) (bs : List ℕ) → eqb b 0x0D ≡ false → has 0x0D (b ∷ bs) ≡ has 0x0D bs
+unfolding has indexOf
+has-cons b bs h = rw h (leb·suc-suc (suc (indexOf 0x0D bs)) (length bs))
+
+pub before-cons : (b : ℕ) (bs : List ℕ) → eqb b 0x0D ≡ false → before 0x0D (b ∷ bs) ≡ b ∷ before 0x0D bs
+unfolding before indexOf
+before-cons b bs h = rw h refl
+
+after-cons : (b : ℕ) (bs : List ℕ) → eqb b 0x0D ≡ false → after 0x0D (b ∷ bs) ≡ after 0x0D bs
+unfolding after indexOf
+after-cons b bs h = rw h refl
+
+has-end : (b : ℕ) (bs : List ℕ) → eqb b 0x0D ≡ true → has 0x0D (b ∷ bs) ≡ true
+unfolding has indexOf
+has-end b bs h = rw h (lt-ltb 0 (suc (length bs)) (omega arith))
+
+pub before-end : (b : ℕ) (bs : List ℕ) → eqb b 0x0D ≡ true → before 0x0D (b ∷ bs) ≡ []
+unfolding before indexOf
+before-end b bs h = rw h refl
+
+after-end : (b : ℕ) (bs : List ℕ) → eqb b 0x0D ≡ true → after 0x0D (b ∷ bs) ≡ bs
+unfolding after indexOf
+after-end b bs h = rw h refl
+
+-- a finished line: its reply, and the rest from a fresh port
+unfoldable pub finished : Answering → Answer → List ℕ → Played
+finished answer a rest = replyFirst (a .reply) (feed answer fresh (a .values) rest)
+
+-- what follows on a first part that was played
+unfoldable pub followed : Played → Played → Played
+followed p q = record { replies = p .replies ++ q .replies; values = q .values; port = q .port; refused = q .refused }
+
+module _ (answer : Answering) where
+  pub feed-end : (v : View) (vs : List ℤ) (b : ℕ) (bs : List ℕ) → eqb b 0x0D ≡ true
+      → feed answer v vs (b ∷ bs) ≡ finished answer (finish answer vs v) bs
+  unfolding feed finished
+  feed-end v vs b bs h = rw h refl
+
+  pub feed-byte : (v : View) (vs : List ℤ) (b : ℕ) (bs : List ℕ) → eqb b 0x0D ≡ false
+      → feed answer v vs (b ∷ bs) ≡ feed answer (join v (b ∷ [])) vs bs
+  unfolding feed
+  feed-byte v vs b bs h = rw h refl
+
+  pub feed-nothing : (v : View) (vs : List ℤ) → feed answer v vs [] ≡ ended v vs
+  unfolding feed
+  feed-nothing v vs = refl
+
+  -- without 0D, all bytes are joined to the held line
+  pub feed-waits : (v : View) (vs : List ℤ) (bs : List ℕ) → claim v ≤ lineLimit → has 0x0D bs ≡ false
+      → feed answer v vs bs ≡ ended (join v bs) vs
+  feed-waits v vs [] k h = rw (join-nothing v k) (feed-nothing v vs)
+  feed-waits v vs (b ∷ bs) k h = go (eqb b 0x0D) refl (λ h. feed-waits (join v (b ∷ [])) vs bs (claim-join v (b ∷ [])) h)
+    where
+      w : View
+      w = join v (b ∷ [])
+
+      go : (t : Bool) → eqb b 0x0D ≡ t → (has 0x0D bs ≡ false → feed answer w vs bs ≡ ended (join w bs) vs)
+          → feed answer v vs (b ∷ bs) ≡ ended (join v (b ∷ bs)) vs
+      go true e ih = absurd (true≢false (sym (has-end b bs e) ∙ h))
+      go false e ih = feed-byte v vs b bs e ∙ ih (sym (has-cons b bs e) ∙ h) ∙ ap (λ w. ended w vs) (join-join v (b ∷ []) bs)
+
+  -- up to the first 0D, the bytes are joined to the held line, which is then answered
+  pub feed-finishes : (v : View) (vs : List ℤ) (bs : List ℕ) → claim v ≤ lineLimit → has 0x0D bs ≡ true
+      → feed answer v vs bs ≡ finished answer (finish answer vs (join v (before 0x0D bs))) (after 0x0D bs)
+  feed-finishes v vs [] k h = absurd (true≢false (sym h ∙ has-nothing))
+  feed-finishes v vs (b ∷ bs) k h = go (eqb b 0x0D) refl (λ h. feed-finishes (join v (b ∷ [])) vs bs (claim-join v (b ∷ [])) h)
+    where
+      w : View
+      w = join v (b ∷ [])
+
+      go : (t : Bool) → eqb b 0x0D ≡ t
+          → (has 0x0D bs ≡ true → feed answer w vs bs ≡ finished answer (finish answer vs (join w (before 0x0D bs))) (after 0x0D bs))
+          → feed answer v vs (b ∷ bs) ≡ finished answer (finish answer vs (join v (before 0x0D (b ∷ bs)))) (after 0x0D (b ∷ bs))
+      go true e ih = rw (before-end b bs e, after-end b bs e, join-nothing v k) (feed-end v vs b bs e)
+      go false e ih =
+          rw (before-cons b bs e, after-cons b bs e, ← (join-join v (b ∷ []) (before 0x0D bs)))
+          (feed-byte v vs b bs e ∙ ih (sym (has-cons b bs e) ∙ h))
+
+  -- cut anywhere: what follows is fed to the port and the values that the first part leaves
+  abbrev Cut : View → List ℤ → List ℕ → List ℕ → Type 0
+  Cut v vs a b = feed answer v vs (a ++ b) ≡ followed (feed answer v vs a) (feed answer (feed answer v vs a .port) (feed answer v vs a .values) b)
+
+  pub feed-append : (v : View) (vs : List ℤ) (a b : List ℕ)
+      → feed answer v vs (a ++ b) ≡ followed (feed answer v vs a) (feed answer (feed answer v vs a .port) (feed answer v vs a .values) b)
+  unfolding feed followed ended replyFirst
+  feed-append v vs [] b = refl
+  feed-append v vs (x ∷ a) b = go (eqb x 0x0D) refl (feed-append fresh (finish answer vs v .values) a b) (feed-append (join v (x ∷ [])) vs a b)
+    where
+      go : (t : Bool) → eqb x 0x0D ≡ t → Cut fresh (finish answer vs v .values) a b → Cut (join v (x ∷ [])) vs a b → Cut v vs (x ∷ a) b
+      go true e f g = rw (e, f) refl
+      go false e f g = rw e g
+
+  -- no call of it is refused
+  pub feed-serves : (v : View) (vs : List ℤ) (bs : List ℕ) → feed answer v vs bs .refused ≡ false
+  unfolding feed ended finished replyFirst
+  feed-serves v vs [] = refl
+  feed-serves v vs (b ∷ bs) = go (eqb b 0x0D) refl (feed-serves fresh (finish answer vs v .values) bs) (feed-serves (join v (b ∷ [])) vs bs)
+    where
+      go : (t : Bool) → eqb b 0x0D ≡ t → feed answer fresh (finish answer vs v .values) bs .refused ≡ false
+          → feed answer (join v (b ∷ [])) vs bs .refused ≡ false → feed answer v vs (b ∷ bs) .refused ≡ false
+      go true e a c = rw (feed-end v vs b bs e) a
+      go false e a c = rw (feed-byte v vs b bs e) c
+
+  -- lines one after the other: what a line was collected to is answered, and the rest is fed to a fresh port
+  feed-collected : (vs : List ℤ) (l rest : List ℕ) → has 0x0D l ≡ false
+      → feed answer fresh vs (l ++ 0x0D ∷ rest) ≡ finished answer (finish answer vs (join fresh l)) rest
+  unfolding followed ended finished replyFirst
+  feed-collected vs l rest h =
+      feed-append fresh vs l (0x0D ∷ rest)
+      ∙ rw (feed-waits fresh vs l fresh-few h) (feed-end (join fresh l) vs 0x0D rest refl)
+
+  -- a line of at most 64 bytes: its reply, and the rest from the values after it
+  pub feed-line : (vs : List ℤ) (l rest : List ℕ) → length l ≤ lineLimit → has 0x0D l ≡ false
+      → feed answer fresh vs (l ++ 0x0D ∷ rest) ≡ finished answer (answer vs l) rest
+  unfolding finish
+  feed-line vs l rest k h = feed-collected vs l rest h ∙ rw (join-fresh l k) refl
+
+  -- a longer line: one 99, and the next line is read afresh
+  pub feed-overrun : (vs : List ℤ) (l rest : List ℕ) → lineLimit < length l → has 0x0D l ≡ false
+      → feed answer fresh vs (l ++ 0x0D ∷ rest) ≡ replyFirst (nak 99) (feed answer fresh vs rest)
+  unfolding finish finished
+  feed-overrun vs l rest k h = feed-collected vs l rest h ∙ rw (join-overruns l k) refl

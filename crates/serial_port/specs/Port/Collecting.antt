@@ -1,0 +1,69 @@
+-- Rules for the code that collects bytes: the longer held line, or an overrun.
+use mathlib.Core.Path.{_≡_, refl, sym, _∙_}
+use mathlib.Core.Bool.{true, false}
+use mathlib.Core.List.{List, _++_}
+use Prim.Native.Nat.{ℕ, _+_, _-_, _≤_, _<_}
+use native.Mathlib.Omega.{arith}
+use lib.ListN.{length, take, drop, length-append}
+use lib.Seq.{sets, sets-eq, take-at, length-take-le}
+use Rattle.text.specs.Written.{Wrote}
+use Rattle.line.specs.Shape.{lineLimit}
+use Rattle.serial_port.specs.Port.{view, held, fit, join}
+use Rattle.serial_port.specs.Port.Laws.{fit-short, fit-long}
+use Rattle.serial_port.specs.declared.port.Port.{Port}
+
+-- the port q after bs were joined to the line of p: the longer line, and a claim of at most 64 bytes
+pub record Collects (p : Port) (bs : List ℕ) (q : Port) : Type 0 where
+  pub seen : view q ≡ join (view p) bs
+  pub few : q .len ≤ lineLimit
+
+module _ (p : Port) (bs : List ℕ) (few : p .len ≤ 64) where
+  -- an overrun port reads on as overrun
+  pub collects-over : p .overrun ≡ true → Collects p bs p
+  unfolding view join lineLimit
+  collects-over o = record { seen = rw o refl; few = few }
+
+  module _ (o : p .overrun ≡ false) (long : length (p .held) ≡ 64) where
+    joined : join (view p) bs ≡ fit (take (p .len) (p .held) ++ bs)
+    unfolding view join
+    joined = rw o refl
+
+    size : length (take (p .len) (p .held) ++ bs) ≡ p .len + length bs
+    size = rw (length-append, length-take-le (p .len) (p .held) (omega arith)) refl
+
+    -- a 65th byte
+    pub collects-overrun : 64 - p .len < length bs → Collects p bs (record { held = p .held; len = p .len; overrun = true })
+    unfolding view lineLimit
+    collects-overrun h =
+        record { seen = sym (joined ∙ fit-long (take (p .len) (p .held) ++ bs) (omega (arith, size))); few = few }
+
+    whole : length bs ≤ 64 - p .len → take (p .len + length bs) (sets (p .held) (p .len) bs) ≡ take (p .len) (p .held) ++ bs
+    whole h =
+        rw (sets-eq bs (p .held) (p .len) (omega arith))
+        (take-at (take (p .len) (p .held) ++ bs) (drop (p .len + length bs) (p .held)) (p .len + length bs) size)
+
+    -- bytes for which there is room
+    pub collects-bytes : (end : ℕ) (after : List ℕ) → length bs ≤ 64 - p .len → Wrote (p .held) (p .len) bs end after
+        → Collects p bs (record { held = after; len = end; overrun = false })
+    unfolding view lineLimit
+    collects-bytes end after h w =
+        record {
+          seen = rw (w .past, w .bytes, whole h) (sym (joined ∙ fit-short (take (p .len) (p .held) ++ bs) (omega (arith, size))));
+          few = rw (w .past) (omega arith);
+        }
+
+-- ---- the array that holds the bytes
+
+module _ (l : List ℕ) (n : ℕ) (few : n ≤ 64) (long : length l ≡ 64) where
+  pub held-room : (bs : List ℕ) → length bs ≤ 64 - n → n + length bs ≤ length l
+  held-room bs h = omega arith
+
+  pub held-within : n ≤ length l
+  held-within = omega arith
+
+  pub held-part : n ≡ length (take n l)
+  held-part = sym (length-take-le n l (omega arith))
+
+pub ruleset holding = (held-room, held-within, held-part)
+
+pub ruleset collecting = (collects-over, collects-overrun, collects-bytes)

@@ -1,0 +1,3 @@
+// The port: bytes collected into lines, and one reply to each.
+pub mod port;
+pub mod stream;

@@ -1,0 +1,174 @@
+// The port: it collects bytes into lines, and answers each line once.
+use catalogue::rows::all_rows;
+use line::answer::answer_line;
+use line::reply::put_nak;
+use room::table::is_sound;
+use room::values::are_sound;
+use text::cut::find;
+use text::write::put_bytes;
+ghost use mathlib.Core.Bool.{true};
+ghost use mathlib.Core.Path.{_≡_};
+ghost use Prim.Native.Nat.{_≤_};
+ghost use lib.ListN.{length};
+ghost use Rattle.catalogue.specs.Catalogue.{numbers};
+ghost use Rattle.room.specs.Table.{sound};
+ghost use Rattle.room.specs.Values.{valuesSound};
+ghost use Rattle.serial_port.specs.Call.{Answers, callNumber};
+ghost use Rattle.serial_port.specs.Call.Finishing.{Finishes};
+ghost use Rattle.serial_port.specs.Port.{fresh, view};
+ghost use Rattle.serial_port.specs.Port.Collecting.{Collects};
+
+// The bytes of the unfinished line, how many they are, and whether the line has overrun.
+pub struct Port {
+    pub held: [u8; 64],
+    pub len: usize,
+    pub overrun: bool,
+}
+
+// The port handed back, the bytes consumed, the length of the reply, and the number of a refusal or 0.
+pub struct Called {
+    pub port: Port,
+    pub consumed: usize,
+    pub length: usize,
+    pub number: u8,
+}
+
+// The lowest number that a call is refused with, 0 where it is served: `room` bytes are there for the reply, and the port claims `claimed`.
+fn call_number(
+    table: &[u8],
+    rows: &[[i32; 8]; 50],
+    values: &[i64],
+    room: usize,
+    claimed: usize,
+) -> u8
+    requires { ⌜ now rows ≡ numbers ⌝ }
+    ensures { λ r. ⌜ r ≡ callNumber (now (table .entry)) (now (values .entry)) room claimed ⌝ }
+{
+    if !is_sound(table) {
+        return 1;
+    }
+    if !are_sound(table, rows, values) {
+        return 2;
+    }
+    if room < Port::REPLY {
+        return 3;
+    }
+    if claimed <= Port::HELD {
+        return 0;
+    }
+    4
+}
+
+impl Port {
+    // How many bytes a port may hold, how many a reply may have, and how many modules a table may have.
+    pub const HELD: usize = 64;
+
+    pub const REPLY: usize = 64;
+
+    pub const MODULES: usize = room::table::MODULES;
+
+    // The port that holds nothing.
+    pub fn fresh() -> Port
+        ensures { λ r. ⌜ (view r ≡ fresh) × (r .len ≡ 0) ⌝ }
+    {
+        Port {
+            held: [0; 64],
+            len: 0,
+            overrun: false,
+        }
+    }
+
+    // The port with a longer line: bytes past the limit are not held, and the line has overrun.
+    fn collect(self, more: &[u8]) -> Port
+        requires { ⌜ self .len ≤ 64 ⌝ }
+        ensures { λ r. ⌜ Collects self (now (more .entry)) r ⌝ }
+    {
+        let len = self.len;
+        let mut held = self.held;
+        if self.overrun {
+            return self;
+        }
+        if more.len() <= Port::HELD - len {
+            let end = put_bytes(&mut held, len, more);
+            return Port {
+                held: held,
+                len: end,
+                overrun: false,
+            };
+        }
+        Port {
+            held: held,
+            len: len,
+            overrun: true,
+        }
+    }
+
+    // Answers the line that was collected; an overrun one gets 99.
+    fn finish(
+        self,
+        table: &[u8],
+        rows: &[[i32; 8]; 50],
+        values: &mut [i64],
+        reply: &mut [u8],
+    ) -> usize
+        requires { ⌜ (sound (now table) ≡ true) × (now rows ≡ numbers) × (valuesSound (now table) (now values) ≡ true) ⌝ }
+        requires { ⌜ (64 ≤ length (now reply)) × (self .len ≤ 64) ⌝ }
+        ensures { λ r. ⌜ Finishes (now (table .entry)) (now (values .entry)) self (now (reply .entry)) r (now (values .exit)) (now (reply .exit)) ⌝ }
+    {
+        if self.overrun {
+            return put_nak(reply, 99);
+        }
+        let len = self.len;
+        let held = self.held;
+        answer_line(table, rows, values, &held[..len], reply)
+    }
+
+    // A call to which no refusal applies: collects the given bytes up to the first 0D, and answers the line that it finishes.
+    pub fn serve(
+        self,
+        table: &[u8],
+        rows: &[[i32; 8]; 50],
+        values: &mut [i64],
+        given: &[u8],
+        reply: &mut [u8],
+    ) -> Called
+        requires { ⌜ (sound (now table) ≡ true) × (now rows ≡ numbers) × (valuesSound (now table) (now values) ≡ true) ⌝ }
+        requires { ⌜ (64 ≤ length (now reply)) × (self .len ≤ 64) ⌝ }
+        ensures { λ r. ⌜ Answers (now (table .entry)) (now (values .entry)) self (now (given .entry)) (now (reply .entry)) r (now (values .exit)) (now (reply .exit)) ⌝ }
+    {
+        let end = find(given, 0x0D);
+        let port = self.collect(&given[..end]);
+        if end == given.len() {
+            return Called {
+                port: port,
+                consumed: end,
+                length: 0,
+                number: 0,
+            };
+        }
+        let length = port.finish(table, rows, values, reply);
+        Called {
+            port: Port::fresh(),
+            consumed: end + 1,
+            length: length,
+            number: 0,
+        }
+    }
+
+    // A call: refused with the lowest number that applies, or served.
+    pub fn take(self, table: &[u8], values: &mut [i64], given: &[u8], reply: &mut [u8]) -> Called
+        ensures { λ r. ⌜ Answers (now (table .entry)) (now (values .entry)) self (now (given .entry)) (now (reply .entry)) r (now (values .exit)) (now (reply .exit)) ⌝ }
+    {
+        let rows = all_rows();
+        let number = call_number(table, &rows, values, reply.len(), self.len);
+        if number != 0 {
+            return Called {
+                port: self,
+                consumed: 0,
+                length: 0,
+                number: number,
+            };
+        }
+        self.serve(table, &rows, values, given, reply)
+    }
+}

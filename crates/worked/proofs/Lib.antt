@@ -1,0 +1,2 @@
+-- The rules that belong to no one function.
+pub mod Rules

@@ -1,0 +1,113 @@
+#!/bin/bash
+# Runs the program `port` on one input cut in three ways, and on tables that it must refuse, and compares every byte.
+# usage: tests/port-cuts.sh [PROGRAM]
+set -u
+here=$(cd "$(dirname "$0")/.." && pwd)
+program=${1:-$here/target/bin/port}
+[ -x "$program" ] || { echo "port-cuts: no program at $program"; exit 2; }
+folder=$(mktemp -d)
+trap 'rm -rf "$folder"' EXIT
+cd "$folder" || exit 2
+failed=0
+
+# compares two files, and says what was compared
+same() { # WHAT GOT WANTED
+    if cmp -s "$2" "$3"; then echo "ok: $1"; else echo "FAILED: $1"; failed=1; fi
+}
+
+# the table A, and some hundred lines: right, wrong, overrun, and an unfinished last one
+cp "$here/crates/port/data/table" table
+python3 - <<'P'
+import random
+random.seed(7)
+lines = [b'SA"T">1=15', b'SA "T">01=-04', b'SA"T">1=-0', b'SA"T">2=T', b'GA"S">1', b'GA"T">1', b'SA"Q">9=x', b'SA"T">9=x',
+         b'SA"T">1', b'', b'\n', b'SA"S">1=O', b'GA"T">2', b'x' * 64, b'x' * 65, b'SA"T">1=1' + b' ' * 60, b'y' * 200]
+with open("input", "wb") as f:
+    for _ in range(400):
+        f.write(random.choice(lines) + b"\r")
+    f.write(b'GA"T">1')
+P
+"$program" <input >whole
+grep -aq 'GA"T">1=' whole || { echo "FAILED: the program answered nothing"; failed=1; }
+ends=$(tr -dc '\r' <input | wc -c)
+replies=$(tr -dc '\r' <whole | wc -c)
+if [ "$ends" = "$replies" ]; then echo "ok: one reply to each of $ends lines"; else echo "FAILED: $replies replies to $ends lines"; failed=1; fi
+
+# the same, cut byte by byte and at random
+writer() { # SEED: 0 for single bytes
+    python3 - "$1" <<'P'
+import random, sys, time
+seed = int(sys.argv[1])
+random.seed(seed)
+data = open("input", "rb").read()
+at = 0
+while at < len(data):
+    size = 1 if seed == 0 else random.randint(1, 200)
+    sys.stdout.buffer.write(data[at:at + size])
+    sys.stdout.buffer.flush()
+    at += size
+    if random.random() < 0.02:
+        time.sleep(0.001)
+P
+}
+writer 0 | "$program" >bytes
+same "byte by byte gives the same replies" bytes whole
+for seed in 1 2 3; do
+    writer $seed | "$program" >cuts
+    same "random cuts ($seed) give the same replies" cuts whole
+done
+
+# a reply comes before the program waits for more
+python3 - "$program" <<'P' || failed=1
+import subprocess, sys
+p = subprocess.Popen([sys.argv[1]], stdin=subprocess.PIPE, stdout=subprocess.PIPE)
+for line, reply in [(b'GA"S">1\r', b'GA"S">1=F\r'), (b'SA"S">1=O\r', b'\x06\r'), (b'GA"S">1\r', b'GA"S">1=O\r')]:
+    p.stdin.write(line)
+    p.stdin.flush()
+    got = p.stdout.read(len(reply))
+    if got != reply:
+        print("FAILED: a reply before more input:", got)
+        sys.exit(1)
+p.stdin.close()
+rest = p.stdout.read()
+p.wait()
+print("ok: each reply comes before more input" if rest == b"" else "FAILED: bytes after the last reply")
+sys.exit(rest != b"")
+P
+
+# tables that are refused
+printf 'refused 1\r' >refused
+refuses() { # WHAT
+    "$program" <input >got
+    same "refused: $1" got refused
+}
+rm table
+refuses "no table"
+mkdir table
+refuses "a folder for a table"
+rmdir table
+python3 -c 'import sys; sys.stdout.buffer.write(b"".join(bytes([2]) + b"S" + bytes(31) for _ in range(64)) + bytes([2]))' >table
+refuses "a table of 2,113 bytes"
+python3 -c 'import sys; sys.stdout.buffer.write(b"".join(bytes([2]) + b"S" + bytes(31) for _ in range(65)))' >table
+refuses "65 records"
+printf '\7T' >table
+refuses "an unknown kind"
+if [ "$(id -u)" != 0 ]; then
+    cp "$here/crates/port/data/table" table
+    chmod 000 table
+    refuses "a table that may not be read"
+    rm -f table
+fi
+
+# the longest table, and the empty one
+python3 -c 'import sys; sys.stdout.buffer.write(b"".join(bytes([5]) + b"R%02d" % i + bytes(29) for i in range(64)))' >table
+printf 'GA"R63">2>18\rGA"R00">0>8\r' | "$program" >got
+printf 'GA"R63">2>18=F\rGA"R00">0>8=-6.0\r' >wanted
+same "64 records of 33 rows" got wanted
+: >table
+printf 'GA"T">1\rx\r' | "$program" >got
+printf '\02501\r\02599\r' >wanted
+same "an empty table" got wanted
+
+[ $failed = 0 ] && echo "port-cuts: all as it must be"
+exit $failed
