@@ -1,0 +1,8 @@
+-- The restore list, and demand 3: it is the shortest byte sequence that fulfils the wish.
+pub mod Target
+pub mod Lines
+pub mod Listing
+pub mod Measuring
+pub mod Writing
+pub mod Demand
+pub mod Worked
