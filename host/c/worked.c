@@ -1,0 +1,92 @@
+/* The worked lines on table A, from C. Says "ok" or what is wrong. */
+
+#include <stdio.h>
+#include <string.h>
+
+#include "egrivundo.h"
+
+static uint8_t table[2 * EGRIVUNDO_RECORD_BYTES];
+static int wrong = 0;
+
+static void expect(int right, const char *what)
+{
+    if (!right) {
+        printf("wrong: %s\n", what);
+        wrong = 1;
+    }
+}
+
+/* Gives one line with its end to a fresh port, and compares its reply. */
+static void line(const char *text, const char *reply, size_t place, int64_t value)
+{
+    int64_t values[7] = {0};
+    int64_t expected[7] = {0};
+    uint8_t port[EGRIVUNDO_PORT_BYTES] = {0};
+    uint8_t buffer[EGRIVUNDO_REPLY_BYTES] = {0};
+    uint64_t told[EGRIVUNDO_PORT_TOLD] = {0};
+    uint8_t answer = egrivundo_port(table, sizeof table, values, 7, port, sizeof port,
+                                    (const uint8_t *)text, strlen(text), buffer,
+                                    sizeof buffer, told, EGRIVUNDO_PORT_TOLD);
+    expected[place] = value;
+    expect(answer == EGRIVUNDO_OK, text);
+    expect(told[0] == strlen(text) && told[1] == strlen(reply), text);
+    expect(memcmp(buffer, reply, strlen(reply)) == 0, text);
+    expect(memcmp(values, expected, sizeof values) == 0, text);
+    expect(port[0] == 0 && port[1] == 0, text);
+}
+
+static void restore(void)
+{
+    static const char list[] = "SA\"T\">1=-4\rSA\"T\">2=O\rSA\"T\">3=0.5\rSA\"S\">1=O\r";
+    const int64_t present[7] = {0};
+    const int64_t wanted[7] = {-40, 1, 5, 0, 0, 0, 1};
+    const uint8_t selection[2] = {1, 1};
+    uint8_t buffer[43] = {0};
+    uint64_t told[EGRIVUNDO_RESTORE_TOLD] = {9, 9};
+    uint8_t answer = egrivundo_restore(table, sizeof table, present, 7, selection, 2, wanted, 7,
+                                       buffer, 42, told, EGRIVUNDO_RESTORE_TOLD);
+    expect(answer == EGRIVUNDO_REFUSED_LIST && told[0] == 0 && told[1] == 0, "a buffer of 42");
+    expect(buffer[0] == 0, "a refusal writes nothing");
+    answer = egrivundo_restore(table, sizeof table, present, 7, selection, 2, wanted, 7, buffer,
+                               43, told, EGRIVUNDO_RESTORE_TOLD);
+    expect(answer == EGRIVUNDO_OK && told[0] == 43 && told[1] == 4, "a buffer of 43");
+    expect(memcmp(buffer, list, 43) == 0, "the list");
+}
+
+static void show(void)
+{
+    static const char text[] = "GA\"S\">1";
+    uint64_t told[EGRIVUNDO_LOG_TOLD] = {9, 9, 9};
+    uint8_t answer = egrivundo_log(table, sizeof table, (const uint8_t *)text, strlen(text), told,
+                                   EGRIVUNDO_LOG_TOLD);
+    expect(answer == 0 && told[0] == 1 && told[1] == 34 && told[2] == 1, "the log");
+    answer = egrivundo_log(table, sizeof table, (const uint8_t *)text, strlen(text), told, 2);
+    expect(answer == EGRIVUNDO_SHAPE && told[1] == 34, "two numbers told by the log");
+}
+
+int main(void)
+{
+    table[0] = EGRIVUNDO_TONE_CONTROL_EQ;
+    table[1] = 'T';
+    table[EGRIVUNDO_RECORD_BYTES] = EGRIVUNDO_SMARTBASS;
+    table[EGRIVUNDO_RECORD_BYTES + 1] = 'S';
+    expect(egrivundo_table(table, sizeof table) == EGRIVUNDO_OK, "table A");
+    expect(egrivundo_table(table, sizeof table - 1) == EGRIVUNDO_REFUSED_TABLE, "a cut table");
+    line("SA\"T\">1=15\r", "\x06\r", 0, 150);
+    line("SA\"T\">1=15.1\r", "\x15" "03\r", 0, 0);
+    line("SA \"T\">01=-04\r", "\x06\r", 0, -40);
+    line("SA\"T\">1=-0\r", "\x06\r", 0, 0);
+    line("SA\"T\">1=.5\r", "\x15" "03\r", 0, 0);
+    line("SA\"T\">2=T\r", "\x06\r", 1, 1);
+    line("GA\"S\">1\r", "GA\"S\">1=F\r", 0, 0);
+    line("SA\"Q\">9=x\r", "\x15" "01\r", 0, 0);
+    line("SA\"T\">9=x\r", "\x15" "02\r", 0, 0);
+    line("SA\"T\">1>0=1\r", "\x15" "02\r", 0, 0);
+    line("SA\"T\">1\r", "\x15" "99\r", 0, 0);
+    restore();
+    show();
+    if (!wrong) {
+        printf("ok\n");
+    }
+    return wrong;
+}

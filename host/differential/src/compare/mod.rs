@@ -1,0 +1,105 @@
+//! One call on two cores, with everything compared.
+//!
+//! Beside the comparison, each call is held to what can be said without any
+//! reference: a refusal changes nothing, nothing is written beside a lent
+//! slice or past what is told, and the counts fit the bytes.
+
+use crate::lent::Lent;
+use crate::tally::Tally;
+
+/// Stops with a difference where a condition does not hold.
+macro_rules! ensure {
+    ($condition:expr, $($what:tt)+) => {
+        if !$condition {
+            return Err(format!($($what)+));
+        }
+    };
+}
+
+mod port;
+mod restore;
+mod table;
+
+/// What went wrong, in words.
+pub type Difference = String;
+
+pub struct Compare<'a, L, R> {
+    pub left: &'a L,
+    pub right: &'a R,
+    pub tally: Tally,
+}
+
+/// The port and the values of both sides.
+pub struct Sides {
+    left: Side,
+    right: Side,
+}
+
+struct Side {
+    values: Lent<i64>,
+    port: Lent<u8>,
+}
+
+impl Sides {
+    pub fn new(values: &[i64], port: &[u8]) -> Sides {
+        let side = || Side {
+            values: Lent::new(values, 77),
+            port: Lent::new(port, 0xA5),
+        };
+        Sides {
+            left: side(),
+            right: side(),
+        }
+    }
+
+    /// The values, which are the same on both sides.
+    pub fn values(&self) -> &[i64] {
+        self.right.values.view()
+    }
+
+    /// The second core's port.
+    pub fn port(&self) -> &[u8] {
+        self.right.port.view()
+    }
+
+    pub fn set_port(&mut self, port: &[u8]) {
+        self.left.port = Lent::new(port, 0xA5);
+        self.right.port = Lent::new(port, 0xA5);
+    }
+}
+
+/// What an accepted port call did.
+pub struct Fed {
+    pub consumed: usize,
+    pub reply: Vec<u8>,
+}
+
+/// Buffers of a call beside the sides.
+pub struct Buffers {
+    /// Bytes of the reply or list buffer.
+    pub length: usize,
+    /// How many numbers are told.
+    pub told: usize,
+}
+
+fn number(answer: u8) -> &'static str {
+    match answer {
+        0 => "0",
+        1 => "1",
+        2 => "2",
+        3 => "3",
+        4 => "4",
+        5 => "5",
+        6 => "6",
+        7 => "7",
+        8 => "8",
+        255 => "255",
+        _ => "unknown",
+    }
+}
+
+/// A list of values for a message, cut where it is long.
+fn short(values: &[i64]) -> String {
+    let shown = &values[..values.len().min(80)];
+    format!("{} of {shown:?}", values.len())
+}

@@ -1,0 +1,78 @@
+//! The table call and the log call.
+
+use super::{Compare, Difference};
+use crate::cores::Core;
+use crate::lent::Lent;
+use crate::rng::Rng;
+
+impl<L: Core, R: Core> Compare<'_, L, R> {
+    pub fn table(&mut self, table: &[u8]) -> Result<u8, Difference> {
+        let left = self.left.table(table);
+        let right = self.right.table(table);
+        self.tally.count("table", &right.to_string());
+        ensure!(
+            left == right,
+            "table: answers {left} and {right}\n  table {}",
+            table.escape_ascii()
+        );
+        Ok(right)
+    }
+
+    pub fn log(&mut self, rng: &mut Rng, table: &[u8], line: &[u8]) -> Result<(), Difference> {
+        let length = if rng.once_in(40) { rng.below(6) } else { 3 };
+        let told = [rng.next(), 1, 2, 3, 4, 5];
+        let mut left = Lent::new(&told[..length], 99);
+        let mut right = left.clone();
+        let answers = (
+            self.left.log(table, line, left.lend()),
+            self.right.log(table, line, right.lend()),
+        );
+        self.tally.count("log", &answers.1.to_string());
+        let inputs = || {
+            format!(
+                "\n  line {}\n  table {}",
+                line.escape_ascii(),
+                table.escape_ascii()
+            )
+        };
+        ensure!(
+            answers.0 == answers.1 && left.view() == right.view(),
+            "log: answers {answers:?}, told {:?} and {:?}{}",
+            left.view(),
+            right.view(),
+            inputs()
+        );
+        ensure!(
+            left.guarded() && right.guarded(),
+            "log: wrote beside told{}",
+            inputs()
+        );
+        ensure!(
+            (answers.1 == 255) == (length != 3),
+            "log: answers {answers:?} for {length} told{}",
+            inputs()
+        );
+        if answers.1 == 255 {
+            ensure!(
+                right.view() == &told[..length],
+                "log: 255 changed told{}",
+                inputs()
+            );
+            return Ok(());
+        }
+        let whole = match right.view()[0] {
+            0 => line,
+            1 => table,
+            other => return Err(format!("log: a part of {other}{}", inputs())),
+        };
+        let part = &right.view()[1..];
+        ensure!(
+            part[0]
+                .checked_add(part[1])
+                .is_some_and(|end| end <= whole.len() as u64),
+            "log: a part {part:?} that is not there{}",
+            inputs()
+        );
+        Ok(())
+    }
+}

@@ -1,0 +1,54 @@
+//! The reference against itself: no difference, and every answer is met.
+
+use std::process::exit;
+use std::time::Instant;
+
+use differential::{run, settings, sweep, Reference};
+
+fn main() {
+    let began = Instant::now();
+    let report = sweep(&Reference, &Reference);
+    println!(
+        "reference against itself, {} systematic cases, {:.1} seconds",
+        report.tally.cases,
+        began.elapsed().as_secs_f64()
+    );
+    if let Some(found) = report.found {
+        println!("DIFFERENCE in {found}");
+        exit(1);
+    }
+    let settings = settings(300_000);
+    println!("reference against itself, seed {}", settings.seed);
+    let began = Instant::now();
+    let report = run(&Reference, &Reference, settings);
+    let text = report.tally.to_string();
+    println!(
+        "{} cases in {} scenarios, {:.1} seconds{text}",
+        report.tally.cases,
+        report.tally.scenarios,
+        began.elapsed().as_secs_f64(),
+    );
+    if let Some(found) = report.found {
+        println!("DIFFERENCE in {found}");
+        exit(1);
+    }
+    let mut missed = 0;
+    for (call, answers) in [
+        ("table", "0 1"),
+        ("port", "0 1 2 3 4 255"),
+        ("restore", "0 1 2 5 6 7 8 255"),
+        ("log", "0 255"),
+        ("reply", "ACK GA 01 02 03 99"),
+    ] {
+        let row = text.lines().find(|line| line.trim().starts_with(call));
+        for answer in answers.split(' ') {
+            if !row.is_some_and(|row| row.contains(&format!("  {answer}: "))) {
+                println!("never met: {call} {answer}");
+                missed += 1;
+            }
+        }
+    }
+    if missed > 0 {
+        exit(1);
+    }
+}

@@ -1,0 +1,75 @@
+use std::{error, fmt};
+
+/// Why a call was refused, with the paper's number.
+#[derive(Clone, Copy, Debug, PartialEq, Eq)]
+#[repr(u8)]
+pub enum Refusal {
+    /// The table is not sound.
+    Table = 1,
+    /// The values have the wrong length, or one is not permitted.
+    Values = 2,
+    /// The reply buffer is too short.
+    Reply = 3,
+    /// The port claims too many held bytes.
+    Port = 4,
+    /// The selection has the wrong length, or a byte over 1.
+    Selection = 5,
+    /// The wanted list has the wrong length, or an entry of a chosen module
+    /// is not permitted.
+    Wanted = 6,
+    /// A wanted change is beyond reach.
+    Reach = 7,
+    /// The list buffer is too short.
+    List = 8,
+    /// The arguments are not in the interface's shape.
+    Shape = 255,
+}
+
+impl Refusal {
+    /// The number.
+    pub fn number(self) -> u8 {
+        self as u8
+    }
+
+    /// The answer of a call: nothing for 0.
+    ///
+    /// # Panics
+    ///
+    /// On a number that no call gives.
+    pub(crate) fn check(answer: u8) -> Result<(), Refusal> {
+        Err(match answer {
+            0 => return Ok(()),
+            1 => Refusal::Table,
+            2 => Refusal::Values,
+            3 => Refusal::Reply,
+            4 => Refusal::Port,
+            5 => Refusal::Selection,
+            6 => Refusal::Wanted,
+            7 => Refusal::Reach,
+            8 => Refusal::List,
+            255 => Refusal::Shape,
+            _ => panic!("the archive answered {answer}, which is no refusal"),
+        })
+    }
+}
+
+impl fmt::Display for Refusal {
+    fn fmt(&self, out: &mut fmt::Formatter) -> fmt::Result {
+        let reason = match self {
+            Refusal::Table => "the table is not sound",
+            Refusal::Values => "the values are of the wrong length or not permitted",
+            Refusal::Reply => "the reply buffer is too short",
+            Refusal::Port => "the port claims too many held bytes",
+            Refusal::Selection => "the selection is of the wrong length or has a byte over 1",
+            Refusal::Wanted => "the wanted values are of the wrong length or not permitted",
+            Refusal::Reach => {
+                "a wanted change is beyond reach: its row is read-only or its label is shared"
+            }
+            Refusal::List => "the list buffer is too short",
+            Refusal::Shape => "the arguments are not in the interface's shape",
+        };
+        write!(out, "refused with {}: {reason}", self.number())
+    }
+}
+
+impl error::Error for Refusal {}

@@ -1,0 +1,75 @@
+use std::fmt;
+
+use crate::Port;
+
+/// The reply of one port call; empty where no line was finished.
+#[derive(Clone)]
+pub struct Reply {
+    pub(crate) buffer: [u8; Port::REPLY],
+    pub(crate) length: usize,
+}
+
+impl Reply {
+    /// The bytes to send.
+    pub fn bytes(&self) -> &[u8] {
+        &self.buffer[..self.length]
+    }
+
+    /// Whether there is nothing to send.
+    pub fn is_empty(&self) -> bool {
+        self.length == 0
+    }
+
+    /// Whether it is an ACK.
+    pub fn is_ack(&self) -> bool {
+        self.bytes() == b"\x06\r"
+    }
+
+    /// The code of a NAK.
+    ///
+    /// ```
+    /// # use egrivundo::{Room, Type};
+    /// let mut room = Room::new(&[(Type::SmartBass, "S")])?;
+    /// assert_eq!(room.line(b"SA\"S\">2=O")?.nak(), Some("02"));
+    /// assert_eq!(room.line(b"SA\"S\">1=O")?.nak(), None);
+    /// # Ok::<(), egrivundo::Refusal>(())
+    /// ```
+    pub fn nak(&self) -> Option<&str> {
+        match self.bytes() {
+            [0x15, code @ .., b'\r'] => std::str::from_utf8(code).ok(),
+            _ => None,
+        }
+    }
+}
+
+/// Shown in words: `ACK`, `NAK 03`, or the text without its end.
+impl fmt::Display for Reply {
+    fn fmt(&self, out: &mut fmt::Formatter) -> fmt::Result {
+        if self.is_ack() {
+            return out.write_str("ACK");
+        }
+        if let Some(code) = self.nak() {
+            return write!(out, "NAK {code}");
+        }
+        let text = self.bytes();
+        write!(
+            out,
+            "{}",
+            String::from_utf8_lossy(text.strip_suffix(b"\r").unwrap_or(text))
+        )
+    }
+}
+
+impl fmt::Debug for Reply {
+    fn fmt(&self, out: &mut fmt::Formatter) -> fmt::Result {
+        write!(out, "Reply(\"{}\")", self.bytes().escape_ascii())
+    }
+}
+
+impl PartialEq for Reply {
+    fn eq(&self, other: &Reply) -> bool {
+        self.bytes() == other.bytes()
+    }
+}
+
+impl Eq for Reply {}

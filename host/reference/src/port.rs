@@ -1,0 +1,60 @@
+//! The port: collects the bytes of a line over calls.
+
+use super::table::Table;
+use super::{line, Refusal, PORT_BYTES};
+
+/// The most bytes of a line, and so of a port.
+const MOST: usize = 64;
+const REPLY: usize = 64;
+
+/// One call on a port in its shape: bytes consumed and reply length.
+pub fn call(
+    table: &[u8],
+    values: &mut [i64],
+    port: &mut [u8; PORT_BYTES],
+    given: &[u8],
+    reply: &mut [u8],
+) -> Result<(usize, usize), Refusal> {
+    let table = Table::new(table).ok_or(1u8)?;
+    if !table.takes(values) {
+        return Err(2);
+    }
+    if reply.len() < REPLY {
+        return Err(3);
+    }
+    if usize::from(port[0]) > MOST {
+        return Err(4);
+    }
+    match given.iter().position(|&byte| byte == b'\r') {
+        None => {
+            collect(port, given);
+            Ok((given.len(), 0))
+        }
+        Some(end) => {
+            collect(port, &given[..end]);
+            let length = if port[1] == 1 {
+                line::overrun(reply)
+            } else {
+                let line = &port[2..2 + usize::from(port[0])];
+                line::answer(table, values, line, reply)
+            };
+            port[0] = 0;
+            port[1] = 0;
+            Ok((end + 1, length))
+        }
+    }
+}
+
+/// Adds bytes of a line that goes on; the 65th makes the port overrun.
+fn collect(port: &mut [u8; PORT_BYTES], bytes: &[u8]) {
+    let held = usize::from(port[0]);
+    if port[1] == 1 || bytes.is_empty() {
+        return;
+    }
+    if held + bytes.len() > MOST {
+        port[1] = 1;
+        return;
+    }
+    port[2 + held..2 + held + bytes.len()].copy_from_slice(bytes);
+    port[0] = (held + bytes.len()) as u8;
+}

@@ -1,0 +1,104 @@
+//! The restore list.
+
+use super::catalogue::Row;
+use super::table::{permitted, Module, Table};
+use super::text::{write_line, Count, Sink, Tenths, Writer};
+use super::Refusal;
+
+/// Writes the shortest list and tells its bytes and lines.
+pub fn call(
+    table: &[u8],
+    present: &[i64],
+    selection: &[u8],
+    wanted: &[i64],
+    list: &mut [u8],
+) -> Result<(usize, usize), Refusal> {
+    let table = Table::new(table).ok_or(1u8)?;
+    if !table.takes(present) {
+        return Err(2);
+    }
+    if selection.len() != table.count() || selection.iter().any(|&byte| byte > 1) {
+        return Err(5);
+    }
+    if wanted.len() != present.len() {
+        return Err(6);
+    }
+    let wish = Wish {
+        table,
+        present,
+        selection,
+        wanted,
+    };
+    if !wish.chosen().all(|module| wish.permitted(module)) {
+        return Err(6);
+    }
+    if wish.chosen().any(|module| wish.beyond_reach(module)) {
+        return Err(7);
+    }
+    let mut count = Count(0);
+    let lines = wish.write(&mut count);
+    if count.0 > list.len() {
+        return Err(8);
+    }
+    let mut writer = Writer {
+        buffer: list,
+        length: 0,
+    };
+    wish.write(&mut writer);
+    Ok((writer.length, lines))
+}
+
+#[derive(Clone, Copy)]
+struct Wish<'a> {
+    table: Table<'a>,
+    present: &'a [i64],
+    selection: &'a [u8],
+    wanted: &'a [i64],
+}
+
+impl<'a> Wish<'a> {
+    /// The chosen modules in table order.
+    fn chosen(self) -> impl Iterator<Item = Module<'a>> {
+        self.table
+            .modules()
+            .zip(self.selection)
+            .filter(|&(_, &byte)| byte == 1)
+            .map(|(module, _)| module)
+    }
+
+    /// Whether a module's wanted values are permitted.
+    fn permitted(self, module: Module) -> bool {
+        permitted(module.rows, &self.wanted[module.start..])
+    }
+
+    /// The rows of a module that differ, each with its wanted value.
+    fn changes(self, module: Module<'a>) -> impl Iterator<Item = (&'static Row, i64)> + 'a {
+        let present = &self.present[module.start..];
+        let wanted = &self.wanted[module.start..];
+        module
+            .rows
+            .iter()
+            .zip(present.iter().zip(wanted))
+            .filter(|(_, (present, wanted))| present != wanted)
+            .map(|(row, (_, &wanted))| (row, wanted))
+    }
+
+    /// Whether a change of this module cannot be made by a line.
+    fn beyond_reach(self, module: Module<'a>) -> bool {
+        let mut changes = self.changes(module).peekable();
+        let any = changes.peek().is_some();
+        changes.any(|(row, _)| !row.settable) || (any && self.table.bearer(module.label).is_none())
+    }
+
+    /// Puts down a line for each change, and tells how many.
+    fn write(self, sink: &mut impl Sink) -> usize {
+        let mut lines = 0;
+        for module in self.chosen() {
+            for (row, wanted) in self.changes(module) {
+                write_line(sink, b"SA", module.label, row, wanted, Tenths::Shortest);
+                lines += 1;
+            }
+        }
+        lines
+    }
+}

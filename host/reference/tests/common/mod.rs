@@ -1,0 +1,106 @@
+//! A room to try lines on.
+
+#![allow(dead_code)]
+
+pub const ACK: &[u8] = b"\x06\r";
+
+/// A record of the table.
+pub fn record(kind: u8, label: &[u8]) -> Vec<u8> {
+    let mut record = vec![0; 33];
+    record[0] = kind;
+    record[1..1 + label.len()].copy_from_slice(label);
+    record
+}
+
+pub fn table(modules: &[(u8, &[u8])]) -> Vec<u8> {
+    modules
+        .iter()
+        .flat_map(|&(kind, label)| record(kind, label))
+        .collect()
+}
+
+pub fn nak(code: &str) -> Vec<u8> {
+    [&[0x15], code.as_bytes(), b"\r"].concat()
+}
+
+pub struct Room {
+    pub table: Vec<u8>,
+    pub values: Vec<i64>,
+    pub port: [u8; 66],
+}
+
+/// Consumed bytes and the reply of an accepted call, or the refusal.
+pub type Fed = Result<(usize, Vec<u8>), u8>;
+
+impl Room {
+    pub fn new(modules: &[(u8, &[u8])]) -> Room {
+        let rows = modules
+            .iter()
+            .flat_map(|&(kind, _)| reference::catalogue::rows(kind));
+        Room {
+            table: table(modules),
+            values: rows.map(|row| row.start()).collect(),
+            port: [0; 66],
+        }
+    }
+
+    /// Table A of the paper.
+    pub fn a() -> Room {
+        Room::new(&[(1, b"T"), (2, b"S")])
+    }
+
+    pub fn feed(&mut self, given: &[u8]) -> Fed {
+        let mut reply = [0xEE; 64];
+        let mut told = [9; 2];
+        let answer = reference::port(
+            &self.table,
+            &mut self.values,
+            &mut self.port,
+            given,
+            &mut reply,
+            &mut told,
+        );
+        if answer != 0 {
+            assert_eq!(told, [0, 0]);
+            assert_eq!(reply, [0xEE; 64]);
+            return Err(answer);
+        }
+        let (written, rest) = reply.split_at(told[1] as usize);
+        assert!(rest.iter().all(|&byte| byte == 0xEE));
+        Ok((told[0] as usize, written.to_vec()))
+    }
+
+    /// The reply to one line, given without its end.
+    pub fn line(&mut self, line: &[u8]) -> Vec<u8> {
+        let (consumed, reply) = self.feed(&[line, b"\r"].concat()).unwrap();
+        assert_eq!(consumed, line.len() + 1);
+        assert_eq!(self.port[..2], [0, 0]);
+        reply
+    }
+
+    pub fn restore(
+        &self,
+        selection: &[u8],
+        wanted: &[i64],
+        room: usize,
+    ) -> Result<(Vec<u8>, u64), u8> {
+        let mut list = vec![0xEE; room];
+        let mut told = [9; 2];
+        let answer = reference::restore(
+            &self.table,
+            &self.values,
+            selection,
+            wanted,
+            &mut list,
+            &mut told,
+        );
+        if answer != 0 {
+            assert_eq!(told, [0, 0]);
+            assert!(list.iter().all(|&byte| byte == 0xEE));
+            return Err(answer);
+        }
+        assert!(list[told[0] as usize..].iter().all(|&byte| byte == 0xEE));
+        list.truncate(told[0] as usize);
+        Ok((list, told[1]))
+    }
+}

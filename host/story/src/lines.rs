@@ -1,0 +1,118 @@
+//! The form that both files share: one statement on a line.
+//!
+//!     # a remark
+//!     module REST
+//!     INDEX = VALUE
+
+/// What is wrong, and on which line.
+#[derive(Debug, PartialEq, Eq)]
+pub struct Fault {
+    pub line: usize,
+    pub message: String,
+}
+
+impl Fault {
+    pub fn new(line: usize, message: impl Into<String>) -> Fault {
+        Fault {
+            line,
+            message: message.into(),
+        }
+    }
+
+    /// The fault as it is told: file, line, message.
+    pub fn in_file(&self, name: &str) -> String {
+        format!("{name}:{}: {}", self.line, self.message)
+    }
+}
+
+/// A statement with its line number, from 1.
+pub struct Statement<'a> {
+    pub line: usize,
+    pub content: Content<'a>,
+}
+
+pub enum Content<'a> {
+    /// What follows the word `module`.
+    Module(&'a str),
+    /// Index and value.
+    Value(&'a str, &'a str),
+}
+
+/// The statements of a file, without empty lines and remarks.
+pub fn statements(text: &str) -> Result<Vec<Statement<'_>>, Fault> {
+    let mut found = Vec::new();
+    for (number, line) in text.lines().enumerate() {
+        let number = number + 1;
+        let line = line.trim();
+        if line.is_empty() || line.starts_with('#') {
+            continue;
+        }
+        let content = if let Some(rest) = line.strip_prefix("module ") {
+            Content::Module(rest.trim())
+        } else if let Some((index, value)) = line.split_once('=') {
+            Content::Value(index.trim(), value.trim())
+        } else {
+            let message = format!("neither `module ...` nor `INDEX = VALUE`: {line}");
+            return Err(Fault::new(number, message));
+        };
+        found.push(Statement {
+            line: number,
+            content,
+        });
+    }
+    Ok(found)
+}
+
+/// The label between the quotes that begin and end a text.
+pub fn quoted(text: &str, line: usize) -> Result<&str, Fault> {
+    let inside = text
+        .strip_prefix('"')
+        .and_then(|rest| rest.strip_suffix('"'));
+    let Some(label) = inside else {
+        return Err(Fault::new(line, format!("no label in quotes: {text}")));
+    };
+    if label.is_empty() || label.len() > 32 {
+        let message = format!("a label has 1 to 32 bytes, this one {}", label.len());
+        return Err(Fault::new(line, message));
+    }
+    let bad = |letter: &char| !(' '..='~').contains(letter) || *letter == '"';
+    if let Some(letter) = label.chars().find(bad) {
+        let message = format!("a label cannot hold the character {letter:?}");
+        return Err(Fault::new(line, message));
+    }
+    Ok(label)
+}
+
+#[cfg(test)]
+mod tests {
+    use super::*;
+
+    #[test]
+    fn remarks_and_blanks() {
+        let found = statements("# one\n\n  module x\n 1>2 = 3 \n").ok().unwrap();
+        let places: Vec<usize> = found.iter().map(|statement| statement.line).collect();
+        assert_eq!(places, [3, 4]);
+        assert!(matches!(found[1].content, Content::Value("1>2", "3")));
+        assert_eq!(statements("\nnonsense").err().unwrap().line, 2);
+    }
+
+    #[test]
+    fn labels() {
+        assert_eq!(quoted("\"a = b\"", 1), Ok("a = b"));
+        for wrong in [
+            "",
+            "a",
+            "\"",
+            "\"\"",
+            "\"a\"b\"",
+            "\"\u{e9}\"",
+            "\"a",
+            "\"\t\"",
+        ] {
+            assert!(quoted(wrong, 1).is_err(), "{wrong}");
+        }
+        let long = format!("\"{}\"", "x".repeat(33));
+        assert!(quoted(&long, 1).is_err());
+        assert!(quoted(&long.replacen('x', "", 1), 1).is_ok());
+    }
+}

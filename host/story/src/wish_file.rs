@@ -1,0 +1,125 @@
+//! Wish files: the chosen modules and what is wanted of them.
+//!
+//!     module "LABEL"
+//!     INDEX = VALUE
+//!
+//! `module NUMBER` chooses by the place in the room, from 1. A value of a
+//! chosen module that is not given is wanted as it is at present.
+
+use std::collections::HashMap;
+
+use egrivundo::{Module, Room};
+
+use crate::lines::{quoted, statements, Content, Fault};
+use crate::parameter::read_parameter;
+
+/// A selection, the wanted values, and the lines that say them.
+#[derive(Debug)]
+pub struct Wish {
+    pub selection: Vec<u8>,
+    pub wanted: Vec<i64>,
+    /// Line of the file for each value that it gives.
+    pub lines: HashMap<usize, usize>,
+}
+
+pub fn parse(text: &str, room: &Room) -> Result<Wish, Fault> {
+    let modules: Vec<Module> = room.modules().collect();
+    let mut wish = Wish {
+        selection: vec![0; modules.len()],
+        wanted: room.values().to_vec(),
+        lines: HashMap::new(),
+    };
+    let mut chosen: Option<Module> = None;
+    for statement in statements(text)? {
+        let line = statement.line;
+        match statement.content {
+            Content::Module(rest) => {
+                let number = choose(&modules, rest, line)?;
+                if wish.selection[number] == 1 {
+                    return Err(Fault::new(line, format!("chosen twice: {rest}")));
+                }
+                wish.selection[number] = 1;
+                chosen = Some(modules[number]);
+            }
+            Content::Value(index, value) => {
+                let Some(module) = chosen else {
+                    return Err(Fault::new(line, "a value before the first module"));
+                };
+                let (row, value) = read_parameter(module.kind, index, value, line)?;
+                let place = module.start + row;
+                if let Some(earlier) = wish.lines.insert(place, line) {
+                    let message = format!("{index} was given on line {earlier}");
+                    return Err(Fault::new(line, message));
+                }
+                wish.wanted[place] = value;
+            }
+        }
+    }
+    Ok(wish)
+}
+
+/// The module that a wish names, by label or by number.
+fn choose(modules: &[Module], text: &str, line: usize) -> Result<usize, Fault> {
+    if let Ok(number) = text.parse::<usize>() {
+        if number == 0 || number > modules.len() {
+            let message = format!("no module {number}: the room has {}", modules.len());
+            return Err(Fault::new(line, message));
+        }
+        return Ok(number - 1);
+    }
+    let label = quoted(text, line)?.as_bytes();
+    let bearers: Vec<usize> = (0..modules.len())
+        .filter(|&number| modules[number].label == label)
+        .collect();
+    match bearers[..] {
+        [number] => Ok(number),
+        [] => Err(Fault::new(
+            line,
+            format!("no module bears the label {text}"),
+        )),
+        _ => {
+            let numbers: Vec<String> = bearers.iter().map(|n| (n + 1).to_string()).collect();
+            let message = format!(
+                "modules {} bear the label {text}; name one by its number",
+                numbers.join(" and ")
+            );
+            Err(Fault::new(line, message))
+        }
+    }
+}
+
+#[cfg(test)]
+mod tests {
+    use super::*;
+    use crate::room_file;
+
+    fn room() -> Room {
+        room_file::parse("module 1 \"T\"\n1 = 2\nmodule 2 \"S\"\nmodule 3 \"S\"\n").unwrap()
+    }
+
+    #[test]
+    fn a_wish() {
+        let wish = parse("module \"T\"\n3 = 0.5\nmodule 3\n1 = on\n", &room()).unwrap();
+        assert_eq!(wish.selection, [1, 0, 1]);
+        assert_eq!(wish.wanted, [20, 0, 5, 0, 0, 0, 0, 1]);
+        assert_eq!(wish.lines, HashMap::from([(2, 2), (7, 4)]));
+    }
+
+    #[test]
+    fn faults() {
+        for (text, line) in [
+            ("1 = 2", 1),
+            ("module \"Q\"", 1),
+            ("\nmodule \"S\"", 2),
+            ("module 4", 1),
+            ("module 0", 1),
+            ("module T", 1),
+            ("module \"T\"\nmodule 1", 2),
+            ("module \"T\"\n1 = on", 2),
+            ("module \"T\"\n1 = 1\n1 = 1", 3),
+            ("module \"T\"\n9 = 1", 2),
+        ] {
+            assert_eq!(parse(text, &room()).unwrap_err().line, line, "{text}");
+        }
+    }
+}
