@@ -30,10 +30,22 @@ serve-all-spec =
     (λ c. search (serving, needs))  -- part-serve-start-2
     (λ c. search (serving, needs))  -- part-serve-end-2
     (λ c κs. search (serving, needs))  -- serve-requires
-    (λ c. let s = c .before .before .before .before .before in let e = s .before .before .before .before in serving-at _ _ _ _ _ _ _ _ _ _ (e .before .before .loop .inv) _ _ _ (e .if1 .left) (s .serve .ensures))  -- add-at
-    (λ c. let s = c .before .before .before .before .before .before in let e = s .before .before .before .before in serving-end _ _ _ _ _ _ _ _ _ _ (e .before .before .loop .inv) _ _ _ (e .if1 .left) (s .serve .ensures))  -- add-end
-    (λ c. let s = c .before .before .before .before .before .before in let e = s .before .before .before .before in serving-less _ _ _ _ _ _ _ _ _ _ (e .before .before .loop .inv) _ _ _ (e .if1 .left) (s .serve .ensures) (e .before .loop-test .taken))  -- loop-less
-    (λ c. let s = c .before .before .before .before .before .before in let e = s .before .before .before .before in serving-next _ _ _ _ _ _ _ _ _ _ (e .before .before .loop .inv) _ _ _ (e .if1 .left) (s .serve .ensures) (e .before .loop-test .taken))  -- loop-again
+    (λ c.  -- add-at
+    let s = c .before .before .before .before .before in
+    let e = s .before .before .before .before in
+    serving-at _ _ _ _ _ _ _ _ _ _ (e .before .before .loop .inv) _ _ _ (e .if1 .left) (s .serve .ensures))
+    (λ c.  -- add-end
+    let s = c .before .before .before .before .before .before in
+    let e = s .before .before .before .before in
+    serving-end _ _ _ _ _ _ _ _ _ _ (e .before .before .loop .inv) _ _ _ (e .if1 .left) (s .serve .ensures))
+    (λ c.  -- loop-less
+    let s = c .before .before .before .before .before .before in
+    let e = s .before .before .before .before in
+    serving-less _ _ _ _ _ _ _ _ _ _ (e .before .before .loop .inv) _ _ _ (e .if1 .left) (s .serve .ensures) (e .before .loop-test .taken))
+    (λ c.  -- loop-again
+    let s = c .before .before .before .before .before .before in
+    let e = s .before .before .before .before in
+    serving-next _ _ _ _ _ _ _ _ _ _ (e .before .before .loop .inv) _ _ _ (e .if1 .left) (s .serve .ensures) (e .before .loop-test .taken))
     (λ c. search (serving, needs))  -- same-length-3
     (λ c. search (serving, needs))  -- same-length-4
     (λ c. search (serving, needs)))  -- returns-2
