@@ -10,7 +10,7 @@ use lib.ListN.{getD, set}
 use Rattle.text.specs.Written.{Wrote}
 use Rattle.room.specs.Parameters.{place}
 use Rattle.line.specs.Meaning.{meaning}
-use Rattle.line.specs.Reply.{ack, nak, getReply}
+use Rattle.wire.specs.Reply.{ack, nak, getReply}
 use Rattle.line.specs.declared.meaning.Meaning.{Meaning}
 use Rattle.line.specs.declared.meaning.Meaning.the-variants.{Code, Get, Put}
 

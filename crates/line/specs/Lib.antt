@@ -3,8 +3,8 @@ pub mod Shape
 pub mod IndexPart
 pub mod Value
 pub mod Meaning
-pub mod Reply
+pub mod Told
 pub mod Answer
-pub mod Say
+pub mod Said
 pub mod Log
 pub mod Worked

@@ -24,7 +24,7 @@ use Rattle.line.specs.Shape.{lineLimit, isSet, isGet, opening, firstFrom
 use Rattle.line.specs.IndexPart.{oneGroup, twoGroups, groups, readIndices}
 use Rattle.line.specs.Value.{ofLevel, ofNumber, ofSwitch, readKind, onlyPermitted, readValue}
 use Rattle.line.specs.Meaning.{indexed, inModule, inRoom, putOf, getOf, setOf, ofShape, meaning}
-use Rattle.line.specs.Reply.{ack, nak, indexText, replyText, name, getReply}
+use Rattle.wire.specs.Reply.{ack, nak, indexText, replyText, name, getReply}
 use Rattle.line.specs.Answer.{Answer, act, answer}
 
 -- a line on the values all 0, and what it is answered with

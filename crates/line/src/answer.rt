@@ -1,10 +1,10 @@
 // The answer to a line: the reply, and the values afterwards.
 use crate::meaning::Meaning;
 use crate::meaning::meaning_of;
-use crate::reply::put_ack;
-use crate::reply::put_get;
-use crate::reply::put_nak;
 use room::parameter::Parameter;
+use wire::reply::put_ack;
+use wire::reply::put_get;
+use wire::reply::put_nak;
 ghost use mathlib.Core.Bool.{true};
 ghost use mathlib.Core.Path.{_≡_};
 ghost use Prim.Native.Nat.{_+_, _<_, _≤_};
@@ -17,7 +17,7 @@ ghost use Rattle.room.specs.Table.{sound};
 ghost use Rattle.room.specs.Values.{valuesSound};
 ghost use Rattle.line.specs.Answer.{Answers};
 ghost use Rattle.line.specs.Answer.Replying.{Tellable};
-ghost use Rattle.line.specs.Reply.{ack, getReply};
+ghost use Rattle.wire.specs.Reply.{ack, getReply};
 
 // Tells the present value of a parameter.
 fn tell(table: &[u8], values: &[i64], p: Parameter, reply: &mut [u8]) -> usize

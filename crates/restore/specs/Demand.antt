@@ -12,7 +12,7 @@ use lib.ListN.{length, take, replicate}
 use Rattle.room.specs.Parameters.{parameters}
 use Rattle.room.specs.Table.{sound}
 use Rattle.room.specs.Values.{valuesSound}
-use Rattle.line.specs.Reply.{ack}
+use Rattle.wire.specs.Reply.{ack}
 use Rattle.serial_port.specs.Port.{fresh}
 use Rattle.serial_port.specs.Call.{replyLimit}
 use Rattle.serial_port.specs.Play.{play}

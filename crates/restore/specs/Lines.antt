@@ -17,9 +17,9 @@ use Rattle.room.specs.declared.parameter.Parameter.{Parameter}
 use Rattle.room.specs.declared.parameter.ParameterFound.the-variants.{At}
 use Rattle.room.specs.declared.label.Bearer.the-variants.{Only}
 use Rattle.line.specs.Shape.{lineLimit}
-use Rattle.line.specs.Reply.{ack}
+use Rattle.wire.specs.Reply.{ack}
 use Rattle.line.specs.Answer.{answer}
-use Rattle.line.specs.Say.{say}
+use Rattle.wire.specs.Say.{say}
 use Rattle.restore.specs.Target.{equal}
 
 -- a parameter of the table that a line can set: its row may be set, and its module alone bears its label

@@ -17,7 +17,7 @@ use Rattle.room.specs.Values.{valuesSound}
 use Rattle.room.specs.declared.parameter.Parameter.{Parameter}
 use Rattle.room.specs.declared.label.Bearer.{Bearer}
 use Rattle.room.specs.declared.label.Bearer.the-variants.{Only, NotOne}
-use Rattle.line.specs.Say.{say}
+use Rattle.wire.specs.Say.{say}
 use Rattle.restore.specs.Target.{Wish, selectionRight, wantedRight, target, equal}
 
 -- a wanted change: the parameter, and the values it is to be taken from and to

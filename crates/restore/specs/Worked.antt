@@ -19,8 +19,8 @@ use Rattle.room.specs.Table.{labelByte, labelRight, isZero, fieldSound, bodyLen
 use Rattle.room.specs.Label.{label, same, bearersIn, exactlyOne, bearer}
 use Rattle.room.specs.Parameters.{numbered, parametersOf, parametersIn, parameters}
 use Rattle.room.specs.Values.{eachPermitted, valuesSound}
-use Rattle.line.specs.Reply.{indexText, name}
-use Rattle.line.specs.Say.{setText, say}
+use Rattle.wire.specs.Reply.{indexText, name}
+use Rattle.wire.specs.Say.{setText, say}
 use Rattle.line.specs.Answer.{answer}
 use Rattle.line.specs.Worked as reading
 use Rattle.line.specs.Worked.{oneByteRecord, tableA, zeros, bytes}

@@ -18,7 +18,7 @@ use mir.Val.{Fits, SFits, ofZ, toZ}
 use Rattle.text.specs.Written.{Wrote}
 use Rattle.text.specs.Written.Laws.{wrote-length}
 use Rattle.room.specs.declared.parameter.Parameter.{Parameter}
-use Rattle.line.specs.Say.{say}
+use Rattle.wire.specs.Say.{say}
 
 -- a text written at the start of the part from `at` on
 pub lent-wrote : (l part : List ℕ) (at r : ℕ) (text : List ℕ) → at + length text ≤ length l → Wrote (take (length l - at) (drop at l)) 0 text r part

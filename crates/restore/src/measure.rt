@@ -1,13 +1,13 @@
 // How long the restore list is, and whether every wanted change is within reach.
 use catalogue::rows::row_count;
 use catalogue::rows::row_of;
-use line::say::say_line_length;
 use room::label::Bearer;
 use room::label::find_bearer;
 use room::label::label_length;
 use room::parameter::Parameter;
 use room::table::Module;
 use room::table::body_length;
+use wire::say::say_line_length;
 ghost use mathlib.Core.Bool.{true};
 ghost use mathlib.Core.Path.{_≡_};
 ghost use Prim.Native.Nat.{_+_, _≤_};

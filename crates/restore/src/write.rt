@@ -1,10 +1,10 @@
 // Writing the restore list: each line is put down from where the one before ended.
 use catalogue::rows::row_count;
 use catalogue::rows::row_of;
-use line::say::put_say_line;
 use room::parameter::Parameter;
 use room::table::Module;
 use room::table::body_length;
+use wire::say::put_say_line;
 ghost use mathlib.Core.Bool.{true};
 ghost use mathlib.Core.List.{[], _∷_, _++_};
 ghost use mathlib.Core.Path.{_≡_};
@@ -12,7 +12,7 @@ ghost use Prim.Native.Nat.{_+_, _≤_};
 ghost use lib.ListN.{length};
 ghost use Rattle.catalogue.specs.Catalogue.{known, numbers, rowsOf};
 ghost use Rattle.text.specs.Written.{Wrote};
-ghost use Rattle.line.specs.Say.{say};
+ghost use Rattle.wire.specs.Say.{say};
 ghost use Rattle.restore.specs.Demand.{Admitted};
 ghost use Rattle.restore.specs.Listing.{changes, listing};
 ghost use Rattle.restore.specs.Measuring.{Standing, moduleChanges, rowChanges};

@@ -15,7 +15,7 @@ use Rattle.text.specs.Cut.{has, indexOf, before}
 use Rattle.room.specs.Table.{sound}
 use Rattle.room.specs.Values.{valuesSound}
 use Rattle.line.specs.Shape.{lineLimit}
-use Rattle.line.specs.Reply.{nak}
+use Rattle.wire.specs.Reply.{nak}
 use Rattle.line.specs.Answer.{Answer, answer}
 use Rattle.serial_port.specs.Port.{View, held, over, view, fresh, join}
 use Rattle.serial_port.specs.declared.port.Port.{Port}

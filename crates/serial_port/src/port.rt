@@ -1,11 +1,11 @@
 // The port: it collects bytes into lines, and answers each line once.
 use catalogue::rows::all_rows;
 use line::answer::answer_line;
-use line::reply::put_nak;
 use room::table::is_sound;
 use room::values::are_sound;
 use text::cut::find;
 use text::write::put_bytes;
+use wire::reply::put_nak;
 ghost use mathlib.Core.Bool.{true};
 ghost use mathlib.Core.Path.{_≡_};
 ghost use Prim.Native.Nat.{_≤_};

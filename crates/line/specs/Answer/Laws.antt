@@ -17,7 +17,7 @@ use Rattle.room.specs.declared.parameter.ParameterFound.the-variants.{At}
 use Rattle.line.specs.Shape.{part}
 use Rattle.line.specs.Meaning.{meaning}
 use Rattle.line.specs.Meaning.Laws.{Puts, Gets, names-place, names-label, put-told, get-told}
-use Rattle.line.specs.Reply.{ack, nak, getReply}
+use Rattle.wire.specs.Reply.{ack, nak, getReply}
 use Rattle.line.specs.Answer.{Answer, act, answer}
 use Rattle.line.specs.declared.meaning.Meaning.{Meaning}
 use Rattle.line.specs.declared.meaning.Meaning.the-variants.{Code, Get, Put}

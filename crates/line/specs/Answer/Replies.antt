@@ -16,8 +16,8 @@ use Rattle.room.specs.declared.parameter.Parameter.{Parameter}
 use Rattle.line.specs.Shape.{part}
 use Rattle.line.specs.Meaning.{meaning}
 use Rattle.line.specs.Meaning.Laws.{Gets, names-label, get-told}
-use Rattle.line.specs.Reply.{ack, nak, getReply}
-use Rattle.line.specs.Reply.Laws.{Told, reply-told}
+use Rattle.wire.specs.Reply.{ack, nak, getReply}
+use Rattle.line.specs.Told.{Told, reply-told}
 use Rattle.line.specs.Answer.{act, answer}
 use Rattle.line.specs.Answer.Laws.{Effect, refused, told, put, gets-place, answered, effect}
 use Rattle.line.specs.declared.meaning.Meaning.the-variants.{Get}

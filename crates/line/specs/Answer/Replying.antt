@@ -34,7 +34,7 @@ use Rattle.line.specs.Answer.Laws.{answered, gets-place, puts-place}
 use Rattle.line.specs.Answer.Replies.{gets-label, reply-limit}
 use Rattle.line.specs.Meaning.{Target, target, code, getOf, inModule, inRoom, indexed, meaning, ofShape, putOf, setOf}
 use Rattle.line.specs.Meaning.Laws.{get-told, put-told}
-use Rattle.line.specs.Reply.{ack, nak, getReply}
+use Rattle.wire.specs.Reply.{ack, nak, getReply}
 use Rattle.line.specs.declared.meaning.Meaning.{Meaning}
 use Rattle.line.specs.declared.meaning.Meaning.the-variants.{Code, Get, Put}
 

@@ -21,7 +21,7 @@ use Rattle.catalogue.specs.Catalogue.Sized.{sizedIndices}
 use Rattle.catalogue.specs.declared.rows.Indices.{Indices}
 use Rattle.catalogue.specs.declared.rows.Indices.the-variants.{OneGroup, TwoGroups}
 use Rattle.line.specs.IndexPart.{oneGroup, twoGroups, groups, readIndices}
-use Rattle.line.specs.Reply.{indexText}
+use Rattle.wire.specs.Reply.{indexText}
 use Rattle.line.specs.declared.index.IndexPart.the-variants.{Right, Wrong}
 
 wrong {ℓ} : {A : Type ℓ} (i : Indices) → Wrong ≡ Right i → A

@@ -18,7 +18,7 @@ use Rattle.room.specs.declared.label.Bearer.{Bearer}
 use Rattle.room.specs.declared.label.Bearer.the-variants.{Only, NotOne}
 use Rattle.room.specs.declared.table.Module.{Module}
 use Rattle.line.specs.Log.{firstQuote, secondQuote, shown, logPart}
-use Rattle.line.specs.Reply.Naming.{label-short}
+use Rattle.wire.specs.Reply.Naming.{label-short}
 use Rattle.line.specs.Shape.{firstFrom, part}
 use Rattle.line.specs.declared.log.LogPart.{LogPart}
 use Rattle.line.specs.declared.log.LogPart.the-variants.{Table, Line, Nothing}

@@ -26,8 +26,8 @@ use Rattle.catalogue.specs.Catalogue.Sized.{Sized}
 use Rattle.catalogue.specs.Catalogue.Sized as row
 use Rattle.catalogue.specs.declared.rows.Kind.{Kind}
 use Rattle.catalogue.specs.declared.rows.Kind.the-variants as kind
-use Rattle.line.specs.Reply.{replyText}
-use Rattle.line.specs.Say.{setText}
+use Rattle.wire.specs.Reply.{replyText}
+use Rattle.wire.specs.Say.{setText}
 use Rattle.line.specs.Value.{ofLevel, ofNumber, ofSwitch, readKind}
 use Rattle.line.specs.Value.Laws.{wrong-value}
 use Rattle.line.specs.declared.value.ValueText.the-variants.{Value}

@@ -11,7 +11,7 @@ use Rattle.room.specs.declared.parameter.Parameter.{Parameter}
 use Rattle.room.specs.declared.parameter.ParameterFound.the-variants.{At}
 use Rattle.line.specs.Shape.{lineLimit}
 use Rattle.line.specs.Answer.{answer}
-use Rattle.line.specs.Say.{say}
+use Rattle.wire.specs.Say.{say}
 use Rattle.serial_port.specs.Play.Laws.{Right}
 use Rattle.restore.specs.Target.{equal}
 use Rattle.restore.specs.Target.Laws.{equal-refl, values-many}

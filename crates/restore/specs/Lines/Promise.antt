@@ -16,9 +16,9 @@ use Rattle.line.specs.Shape.{lineLimit}
 use Rattle.line.specs.Meaning.{meaning}
 use Rattle.line.specs.Answer.Laws as line
 use Rattle.line.specs.Answer.Laws.{put-puttable}
-use Rattle.line.specs.Say.{say}
-use Rattle.line.specs.Say.Laws.{say-naming, say-puttable, said-answer}
-use Rattle.line.specs.Say.Price.{say-shortest}
+use Rattle.wire.specs.Say.{say}
+use Rattle.line.specs.Said.Laws.{say-naming, say-puttable, said-answer}
+use Rattle.line.specs.Said.Price.{say-shortest}
 use Rattle.line.specs.declared.meaning.Meaning.the-variants.{Put}
 use Rattle.restore.specs.Target.{equal}
 use Rattle.restore.specs.Target.Laws.{equal-true}

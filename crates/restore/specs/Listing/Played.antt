@@ -14,9 +14,9 @@ use Rattle.room.specs.Parameters.{parameters, place, parameterAt}
 use Rattle.room.specs.Values.{eachPermitted}
 use Rattle.room.specs.declared.parameter.Parameter.{Parameter}
 use Rattle.room.specs.declared.parameter.ParameterFound.the-variants.{At}
-use Rattle.line.specs.Reply.{ack}
+use Rattle.wire.specs.Reply.{ack}
 use Rattle.line.specs.Answer.{answer}
-use Rattle.line.specs.Say.{say}
+use Rattle.wire.specs.Say.{say}
 use Rattle.serial_port.specs.Port.{fresh}
 use Rattle.serial_port.specs.Play.{Played, ended, replyFirst, feed}
 use Rattle.serial_port.specs.Play.Feed.{finished, feed-line, feed-nothing}

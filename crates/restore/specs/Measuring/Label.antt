@@ -11,7 +11,7 @@ use Rattle.room.specs.Label.{bearer, label}
 use Rattle.room.specs.declared.table.Module.{Module}
 use Rattle.room.specs.declared.label.Bearer.{Bearer}
 use Rattle.room.specs.declared.label.Bearer.the-variants.{Only, NotOne}
-use Rattle.line.specs.Reply.Naming.{label-short}
+use Rattle.wire.specs.Reply.Naming.{label-short}
 use Rattle.restore.specs.Listing.{borneOnce}
 
 as-many : (n : ℕ) (s : List ℕ) → take (length (take n s)) s ≡ take n s

@@ -11,7 +11,7 @@ use Rattle.catalogue.specs.declared.rows.Row.{Row}
 use Rattle.room.specs.Label.{bearer, label}
 use Rattle.room.specs.Parameters.{numbered, parametersOf}
 use Rattle.room.specs.declared.table.Module.{Module}
-use Rattle.line.specs.Say.{say}
+use Rattle.wire.specs.Say.{say}
 use Rattle.restore.specs.Target.{equal}
 use Rattle.restore.specs.Listing.{Change, allReachable, borneOnce, changesOf, lineOf, listing, reachable}
 use Rattle.restore.specs.Measuring.{allSettable, rowChanges}

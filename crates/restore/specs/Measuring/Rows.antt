@@ -16,7 +16,7 @@ use Rattle.catalogue.specs.Catalogue.Rules.{rowOf}
 use Rattle.catalogue.specs.declared.rows.Row.{Row}
 use Rattle.room.specs.Parameters.Laws.{parameterOf}
 use Rattle.room.specs.declared.table.Module.{Module}
-use Rattle.line.specs.Say.{say}
+use Rattle.wire.specs.Say.{say}
 use Rattle.restore.specs.Listing.{Change, listing}
 use Rattle.restore.specs.Measuring.{Settles, allSettable, measuredIf, rowChanges}
 use Rattle.restore.specs.Measuring.Laws.{listing-append, one-line, settable-append}

@@ -24,10 +24,10 @@ use Rattle.catalogue.specs.declared.rows.Kind.the-variants as kind
 use Rattle.room.specs.Label.{label}
 use Rattle.room.specs.Parameters.Laws.{parameterOf}
 use Rattle.room.specs.declared.table.Module.{Module}
-use Rattle.line.specs.Reply.{indexText, name}
-use Rattle.line.specs.Reply.Naming.{label-short}
-use Rattle.line.specs.Say.{say, setText}
-use Rattle.line.specs.Say.Writing.{level-text-short, number-text-short, switch-text-is}
+use Rattle.wire.specs.Reply.{indexText, name}
+use Rattle.wire.specs.Reply.Naming.{label-short}
+use Rattle.wire.specs.Say.{say, setText}
+use Rattle.wire.specs.Say.Writing.{level-text-short, number-text-short, switch-text-is}
 
 digits-few : (n : ℕ) → ltb n 1000 ≡ true → length (digits n) ≤ 3
 digits-few n e = let l = ltb-true n 1000 e in digits-short n 3 (omega arith) (omega arith)

@@ -15,7 +15,7 @@ use Rattle.text.specs.Written.{Wrote}
 use Rattle.text.specs.Written.Laws.{wrote-join, wrote-length, wrote-nothing}
 use Rattle.room.specs.Parameters.Laws.{parameterOf}
 use Rattle.room.specs.declared.table.Module.{Module}
-use Rattle.line.specs.Say.{say}
+use Rattle.wire.specs.Say.{say}
 use Rattle.restore.specs.Listing.{Change, listing}
 use Rattle.restore.specs.Measuring.{rowChanges}
 use Rattle.restore.specs.Measuring.Laws.{first-fits, listing-append, one-line}

@@ -6,7 +6,7 @@ use Prim.Native.Nat.{ℕ}
 use lib.IntN.{ℤ}
 use lib.ListN.{take}
 use Rattle.text.specs.Written.{Wrote}
-use Rattle.line.specs.Reply.{nak}
+use Rattle.wire.specs.Reply.{nak}
 use Rattle.line.specs.Answer as line
 use Rattle.line.specs.Answer.{answer}
 use Rattle.serial_port.specs.Port.{view}

@@ -1,6 +1,6 @@
 -- `borne_once`: the label is a part of the table.
 use borrow.Author.Needs.{needs}
-use Rattle.line.specs.Reply.Naming.{label-writing}
+use Rattle.wire.specs.Reply.Naming.{label-writing}
 use Rattle.restore.specs.Measuring.Label.{bearing}
 use Rattle.restore.proofs.measure.borne_once.Statement.{statement}
 use Rattle.restore.proofs.measure.borne_once.Tie as tie

@@ -1,0 +1,15 @@
+-- `put_get`: what stands before the value, the value and 0D, one behind the other.
+use borrow.Author.Needs.{needs}
+use Rattle.wire.specs.Reply.Writing.{get-writing}
+use Rattle.wire.proofs.reply.put_get.Statement.{statement}
+use Rattle.wire.proofs.reply.put_get.Tie as tie
+
+pub put-get-spec : {M : Type 1} → statement M
+put-get-spec =
+    tie.close
+    (tie.spec
+    (λ c κs. search (get-writing, needs))
+    (λ c κs. search (get-writing, needs))
+    (λ c κs. search (get-writing, needs))
+    (λ c. search (get-writing, needs))
+    (λ c. search (get-writing, needs)))

@@ -1,0 +1,56 @@
+// Replies, written at the start of the reply buffer.
+use crate::name::put_front;
+use catalogue::rows::Kind;
+use room::parameter::Parameter;
+use text::sign::magnitude;
+use text::write::put_byte;
+use text::write::put_bytes;
+use text::write::put_level_one_decimal;
+use text::write::put_number;
+use text::write::put_switch;
+ghost use Prim.Native.Nat.{_+_, _<_, _≤_};
+ghost use lib.ListN.{length};
+ghost use Rattle.text.specs.Written.{Wrote};
+ghost use Rattle.wire.specs.Reply.{ack, getReply, nak, replyText};
+
+pub fn put_ack(reply: &mut [u8]) -> usize
+    requires { ⌜ 2 ≤ length (now reply) ⌝ }
+    ensures { λ r. ⌜ Wrote (now (reply .entry)) 0 ack r (now (reply .exit)) ⌝ }
+{
+    let text = [0x06, 0x0D];
+    put_bytes(reply, 0, &text)
+}
+
+pub fn put_nak(reply: &mut [u8], code: u8) -> usize
+    requires { ⌜ code < 100 ⌝ }
+    requires { ⌜ 4 ≤ length (now reply) ⌝ }
+    ensures { λ r. ⌜ Wrote (now (reply .entry)) 0 (nak code) r (now (reply .exit)) ⌝ }
+{
+    let text = [0x15, b'0' + code / 10, b'0' + code % 10, 0x0D];
+    put_bytes(reply, 0, &text)
+}
+
+// A value as a reply tells it.
+fn put_told(buffer: &mut [u8], at: usize, kind: Kind, v: i64) -> usize
+    requires { ⌜ at + length (replyText kind v) ≤ length (now buffer) ⌝ }
+    ensures { λ r. ⌜ Wrote (now (buffer .entry)) at (replyText kind v) r (now (buffer .exit)) ⌝ }
+{
+    match kind {
+        Kind::Level => put_level_one_decimal(buffer, at, v),
+        Kind::Switch => put_switch(buffer, at, magnitude(v)),
+        Kind::Number => put_number(buffer, at, magnitude(v)),
+    }
+}
+
+// The answer to a get line: the value of a parameter.
+pub fn put_get(table: &[u8], p: Parameter, v: i64, reply: &mut [u8]) -> usize
+    requires { ⌜ p .owner .place + 33 ≤ length (now table) ⌝ }
+    requires { ⌜ length (getReply (now table) p v) ≤ length (now reply) ⌝ }
+    ensures { λ r. ⌜ Wrote (now (reply .entry)) 0 (getReply (now (table .entry)) p v) r (now (reply .exit)) ⌝ }
+{
+    let row = p.row;
+    let kind = row.kind;
+    let next = put_front(table, p, b'G', reply);
+    let end = put_told(reply, next, kind, v);
+    put_byte(reply, end, 0x0D)
+}
