@@ -72,7 +72,8 @@ fn put_meaning(values: &[i64], p: Parameter, text: &[u8]) -> Meaning
     ensures { λ r. ⌜ r ≡ putOf p (readValue (p .row) (getD (now (values .entry)) (place p) (pos 0)) (now (text .entry))) ⌝ }
 {
     let place = p.owner.first + p.number;
-    match read_value(p.row, values[place], text) {
+    let present = values[place];
+    match read_value(p.row, present, text) {
         ValueText::Value(x) => Meaning::Put(p, x),
         ValueText::Wrong => Meaning::Code(3),
     }

@@ -9,8 +9,8 @@ put-meaning-spec =
     tie.close
     (tie.spec
     (λ c. search (put-rules, needs))  -- add-place
-    (λ c. search (put-rules, needs))  -- mul-read-value
-    (λ c. search (put-rules, needs))  -- shared-slice-copy-out-read-value
+    (λ c. search (put-rules, needs))  -- mul-present
+    (λ c. search (put-rules, needs))  -- shared-slice-copy-out-present
     (λ c κs. search (put-rules, needs))  -- read-value-requires
     (λ c. search (put-rules, needs))  -- enum-known-x
     (λ c. search (put-rules, needs))  -- enum-told
