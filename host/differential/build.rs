@@ -4,16 +4,18 @@ use std::fmt::Write;
 use std::path::{Path, PathBuf};
 use std::{env, fs};
 
-include!("mistakes.rs");
+use mistakes::MISTAKES;
+
+mod mistakes;
 
 fn main() {
     let source = Path::new("../reference/src");
     println!("cargo:rerun-if-changed={}", source.display());
-    println!("cargo:rerun-if-changed=mistakes.rs");
+    println!("cargo:rerun-if-changed=mistakes");
     let out = PathBuf::from(env::var_os("OUT_DIR").expect("cargo sets OUT_DIR"));
     let mut modules = String::new();
     let mut list = String::from("static PLANTED: &[Planted] = &[\n");
-    for (name, about, file, right, wrong) in MISTAKES {
+    for (name, about, file, right, wrong) in MISTAKES.into_iter().flatten() {
         plant(source, &out.join(name), file, right, wrong);
         writeln!(
             modules,
@@ -22,8 +24,8 @@ fn main() {
         .unwrap();
         writeln!(
             list,
-            "Planted {{ name: {name:?}, about: {about:?}, table: {name}::table, \
-             port: {name}::port, restore: {name}::restore, log: {name}::log }},"
+            "Planted {{ name: {name:?}, about: {about:?}, calls: Calls {{ table: {name}::table, \
+             port: {name}::port, restore: {name}::restore, log: {name}::log }} }},"
         )
         .unwrap();
     }

@@ -3,8 +3,8 @@
 use std::hint::black_box;
 use std::rc::Rc;
 
-use crate::cores::Calls;
 use crate::rooms::{self, Room};
+use cores::Calls;
 
 /// One call with its buffers.
 pub struct Case {

@@ -6,7 +6,6 @@
 //!                                or reference (see instructions.sh)
 
 mod cases;
-mod cores;
 mod rooms;
 
 use std::env;

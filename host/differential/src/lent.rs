@@ -2,7 +2,7 @@
 
 const GUARD: usize = 8;
 
-#[derive(Clone)]
+#[derive(Clone, PartialEq)]
 pub struct Lent<T> {
     cells: Vec<T>,
     guard: T,

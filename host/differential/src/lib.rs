@@ -4,16 +4,16 @@
 
 mod campaign;
 mod compare;
-mod cores;
 mod grammar;
 mod lent;
+mod report;
 mod rng;
 mod rooms;
+mod settings;
 mod sweep;
 mod tally;
 
-pub use campaign::{run, settings, Found, Report, Settings};
-#[cfg(feature = "archive")]
-pub use cores::Archive;
-pub use cores::{Core, Planted, Reference};
+pub use campaign::run;
+pub use report::{Found, Report};
+pub use settings::{settings, Settings};
 pub use sweep::sweep;

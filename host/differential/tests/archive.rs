@@ -4,13 +4,14 @@
 use std::process::exit;
 use std::time::Instant;
 
-use differential::{run, settings, sweep, Archive, Reference, Report};
+use cores::{ARCHIVE, REFERENCE};
+use differential::{run, settings, sweep, Report};
 
 fn main() {
     let settings = settings(5_000_000);
     let began = Instant::now();
     println!("archive against reference, systematic cases");
-    if !well(&sweep(&Reference, &Archive), began) {
+    if !well(&sweep(&REFERENCE, &ARCHIVE), began) {
         exit(1);
     }
     let began = Instant::now();
@@ -18,7 +19,7 @@ fn main() {
         "archive against reference, random cases, seed {}",
         settings.seed
     );
-    let report = run(&Reference, &Archive, settings);
+    let report = run(&REFERENCE, &ARCHIVE, settings);
     if !well(&report, began) {
         if let Some(found) = report.found {
             println!(

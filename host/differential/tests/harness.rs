@@ -3,11 +3,12 @@
 use std::process::exit;
 use std::time::Instant;
 
-use differential::{run, settings, sweep, Reference};
+use cores::REFERENCE;
+use differential::{run, settings, sweep};
 
 fn main() {
     let began = Instant::now();
-    let report = sweep(&Reference, &Reference);
+    let report = sweep(&REFERENCE, &REFERENCE);
     println!(
         "reference against itself, {} systematic cases, {:.1} seconds",
         report.tally.cases,
@@ -20,7 +21,7 @@ fn main() {
     let settings = settings(300_000);
     println!("reference against itself, seed {}", settings.seed);
     let began = Instant::now();
-    let report = run(&Reference, &Reference, settings);
+    let report = run(&REFERENCE, &REFERENCE, settings);
     let text = report.tally.to_string();
     println!(
         "{} cases in {} scenarios, {:.1} seconds{text}",

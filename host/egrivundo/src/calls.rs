@@ -7,7 +7,56 @@
 //!
 //! [`Refusal`]: crate::Refusal
 
-use crate::raw;
+// The one place with unsafe code.
+#![allow(unsafe_code)]
+
+// As in `include/egrivundo.h`.
+extern "C" {
+    fn egrivundo_table(table: *const u8, table_count: usize) -> u8;
+
+    fn egrivundo_port(
+        table: *const u8,
+        table_count: usize,
+        values: *mut i64,
+        values_count: usize,
+        port: *mut u8,
+        port_count: usize,
+        given: *const u8,
+        given_count: usize,
+        reply: *mut u8,
+        reply_count: usize,
+        told: *mut u64,
+        told_count: usize,
+    ) -> u8;
+
+    fn egrivundo_restore(
+        table: *const u8,
+        table_count: usize,
+        present: *const i64,
+        present_count: usize,
+        selection: *const u8,
+        selection_count: usize,
+        wanted: *const i64,
+        wanted_count: usize,
+        list: *mut u8,
+        list_count: usize,
+        told: *mut u64,
+        told_count: usize,
+    ) -> u8;
+
+    fn egrivundo_log(
+        table: *const u8,
+        table_count: usize,
+        line: *const u8,
+        line_count: usize,
+        told: *mut u64,
+        told_count: usize,
+    ) -> u8;
+}
+
+// Safety of all four: each pointer and count come from one slice, so they
+// are valid for the call; the unique slices overlap nothing, since Rust lent
+// them so; and the archive keeps no pointer.
 
 /// Whether a table is sound: 0, or 1 where it is not.
 ///
@@ -17,7 +66,7 @@ use crate::raw;
 /// ```
 #[inline]
 pub fn table(table: &[u8]) -> u8 {
-    raw::table(table)
+    unsafe { egrivundo_table(table.as_ptr(), table.len()) }
 }
 
 /// One call on a port of 66 bytes. `told` (2 numbers) becomes the bytes
@@ -41,7 +90,22 @@ pub fn port(
     reply: &mut [u8],
     told: &mut [u64],
 ) -> u8 {
-    raw::port(table, values, port, given, reply, told)
+    unsafe {
+        egrivundo_port(
+            table.as_ptr(),
+            table.len(),
+            values.as_mut_ptr(),
+            values.len(),
+            port.as_mut_ptr(),
+            port.len(),
+            given.as_ptr(),
+            given.len(),
+            reply.as_mut_ptr(),
+            reply.len(),
+            told.as_mut_ptr(),
+            told.len(),
+        )
+    }
 }
 
 /// The restore list. `told` (2 numbers) becomes its bytes and lines.
@@ -54,12 +118,36 @@ pub fn restore(
     list: &mut [u8],
     told: &mut [u64],
 ) -> u8 {
-    raw::restore(table, present, selection, wanted, list, told)
+    unsafe {
+        egrivundo_restore(
+            table.as_ptr(),
+            table.len(),
+            present.as_ptr(),
+            present.len(),
+            selection.as_ptr(),
+            selection.len(),
+            wanted.as_ptr(),
+            wanted.len(),
+            list.as_mut_ptr(),
+            list.len(),
+            told.as_mut_ptr(),
+            told.len(),
+        )
+    }
 }
 
 /// The label that a line means. `told` (3 numbers) becomes 1 for the table or
 /// 0 for the line, the start of the part there, and its length.
 #[inline]
 pub fn log(table: &[u8], line: &[u8], told: &mut [u64]) -> u8 {
-    raw::log(table, line, told)
+    unsafe {
+        egrivundo_log(
+            table.as_ptr(),
+            table.len(),
+            line.as_ptr(),
+            line.len(),
+            told.as_mut_ptr(),
+            told.len(),
+        )
+    }
 }

@@ -35,7 +35,6 @@ pub mod calls;
 mod kind;
 mod list;
 mod port;
-mod raw;
 mod refusal;
 mod reply;
 mod room;

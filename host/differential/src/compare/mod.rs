@@ -6,6 +6,7 @@
 
 use crate::lent::Lent;
 use crate::tally::Tally;
+use cores::Calls;
 
 /// Stops with a difference where a condition does not hold.
 macro_rules! ensure {
@@ -19,22 +20,35 @@ macro_rules! ensure {
 mod port;
 mod restore;
 mod table;
+mod written;
 
 /// What went wrong, in words.
 pub type Difference = String;
 
-pub struct Compare<'a, L, R> {
-    pub left: &'a L,
-    pub right: &'a R,
+pub struct Compare<'a> {
+    left: &'a Calls,
+    right: &'a Calls,
     pub tally: Tally,
 }
 
+impl<'a> Compare<'a> {
+    pub fn new(left: &'a Calls, right: &'a Calls) -> Compare<'a> {
+        Compare {
+            left,
+            right,
+            tally: Tally::default(),
+        }
+    }
+}
+
 /// The port and the values of both sides.
+#[derive(Clone, PartialEq)]
 pub struct Sides {
     left: Side,
     right: Side,
 }
 
+#[derive(Clone, PartialEq)]
 struct Side {
     values: Lent<i64>,
     port: Lent<u8>,
@@ -42,13 +56,13 @@ struct Side {
 
 impl Sides {
     pub fn new(values: &[i64], port: &[u8]) -> Sides {
-        let side = || Side {
+        let side = Side {
             values: Lent::new(values, 77),
             port: Lent::new(port, 0xA5),
         };
         Sides {
-            left: side(),
-            right: side(),
+            left: side.clone(),
+            right: side,
         }
     }
 
@@ -80,6 +94,14 @@ pub struct Buffers {
     pub length: usize,
     /// How many numbers are told.
     pub told: usize,
+}
+
+impl Buffers {
+    /// Those of a port call.
+    pub const USUAL: Buffers = Buffers {
+        length: 64,
+        told: 2,
+    };
 }
 
 fn number(answer: u8) -> &'static str {

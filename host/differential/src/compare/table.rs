@@ -1,14 +1,13 @@
 //! The table call and the log call.
 
 use super::{Compare, Difference};
-use crate::cores::Core;
 use crate::lent::Lent;
 use crate::rng::Rng;
 
-impl<L: Core, R: Core> Compare<'_, L, R> {
+impl Compare<'_> {
     pub fn table(&mut self, table: &[u8]) -> Result<u8, Difference> {
-        let left = self.left.table(table);
-        let right = self.right.table(table);
+        let left = (self.left.table)(table);
+        let right = (self.right.table)(table);
         self.tally.count("table", &right.to_string());
         ensure!(
             left == right,
@@ -24,8 +23,8 @@ impl<L: Core, R: Core> Compare<'_, L, R> {
         let mut left = Lent::new(&told[..length], 99);
         let mut right = left.clone();
         let answers = (
-            self.left.log(table, line, left.lend()),
-            self.right.log(table, line, right.lend()),
+            (self.left.log)(table, line, left.lend()),
+            (self.right.log)(table, line, right.lend()),
         );
         self.tally.count("log", &answers.1.to_string());
         let inputs = || {

@@ -1,0 +1,35 @@
+//! The cores that are compared and measured.
+
+#![forbid(unsafe_code)]
+
+type Port = fn(&[u8], &mut [i64], &mut [u8], &[u8], &mut [u8], &mut [u64]) -> u8;
+type Restore = fn(&[u8], &[i64], &[u8], &[i64], &mut [u8], &mut [u64]) -> u8;
+
+/// The four calls of a core, over slices.
+pub struct Calls {
+    /// Of a table.
+    pub table: fn(&[u8]) -> u8,
+    /// Of table, values, port, given bytes, reply, told.
+    pub port: Port,
+    /// Of table, present values, selection, wanted values, list, told.
+    pub restore: Restore,
+    /// Of table, line, told.
+    pub log: fn(&[u8], &[u8], &mut [u64]) -> u8,
+}
+
+/// The reference.
+pub static REFERENCE: Calls = Calls {
+    table: reference::table,
+    port: reference::port,
+    restore: reference::restore,
+    log: reference::log,
+};
+
+/// The proved archive.
+#[cfg(feature = "archive")]
+pub static ARCHIVE: Calls = Calls {
+    table: egrivundo::calls::table,
+    port: egrivundo::calls::port,
+    restore: egrivundo::calls::restore,
+    log: egrivundo::calls::log,
+};

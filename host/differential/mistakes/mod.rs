@@ -1,0 +1,28 @@
+//! The planted mistakes.
+
+mod line;
+mod log;
+mod port;
+mod restore;
+mod table;
+mod values;
+
+/// Name, what is wrong, file of the reference, the right text (at one place
+/// of the file) and the wrong one.
+pub type Mistake = (
+    &'static str,
+    &'static str,
+    &'static str,
+    &'static str,
+    &'static str,
+);
+
+/// All of them, part by part.
+pub const MISTAKES: [&[Mistake]; 6] = [
+    values::MISTAKES,
+    table::MISTAKES,
+    line::MISTAKES,
+    port::MISTAKES,
+    restore::MISTAKES,
+    log::MISTAKES,
+];

@@ -1,0 +1,83 @@
+//! The restore list.
+
+use super::Mistake;
+
+pub const MISTAKES: &[Mistake] = &[
+    (
+        "selection_2",
+        "a selection byte of 2 is taken",
+        "restore.rs",
+        "|&byte| byte > 1",
+        "|&byte| byte > 2",
+    ),
+    (
+        "unchosen_judged",
+        "the wanted values of all modules are judged",
+        "restore.rs",
+        "if !wish.chosen().all(|module|",
+        "if !wish.table.modules().all(|module|",
+    ),
+    (
+        "read_only_skipped",
+        "a change of a read-only row is no 7",
+        "restore.rs",
+        "changes.any(|(row, _)| !row.settable) || ",
+        "",
+    ),
+    (
+        "shared_written",
+        "a change of a shared label is no 7",
+        "restore.rs",
+        "(any && self.table.bearer(module.label).is_none())",
+        "(any && module.label.is_empty())",
+    ),
+    (
+        "shared_unchanged",
+        "a shared label without a change is 7",
+        "restore.rs",
+        "(any && self.table",
+        "(self.table",
+    ),
+    (
+        "room_equal",
+        "a buffer of just the length is too short",
+        "restore.rs",
+        "if count.0 > list.len() {",
+        "if count.0 >= list.len() && count.0 > 0 {",
+    ),
+    (
+        "long_level",
+        "a list has levels with .0",
+        "restore.rs",
+        "wanted, Tenths::Shortest",
+        "wanted, Tenths::Always",
+    ),
+    (
+        "count_lines",
+        "lines told are one too few from ten on",
+        "restore.rs",
+        "Ok((writer.length, lines))",
+        "Ok((writer.length, if lines > 9 { lines - 1 } else { lines }))",
+    ),
+    (
+        "list_toggle",
+        "a list turns switches over with T",
+        "text.rs",
+        "sink.put(if value == 1 { b\"O\" } else { b\"F\" })",
+        "sink.put(if tenths == Tenths::Shortest { b\"T\" } else if value == 1 { b\"O\" } else { b\"F\" })",
+    ),
+    (
+        "part_written",
+        "a list that does not fit is begun",
+        "restore.rs",
+        "if count.0 > list.len() {",
+        "if count.0 > list.len() {\n        list.iter_mut().zip(b\"SA\").for_each(|(to, from)| *to = *from);",
+    ),
+    (
+        "reach_late",
+        "8 comes before 7",
+        "restore.rs",
+        "    if wish.chosen().any(|module| wish.beyond_reach(module)) {\n        return Err(7);\n    }\n    let mut count = Count(0);\n    let lines = wish.write(&mut count);\n    if count.0 > list.len() {\n        return Err(8);\n    }",
+        "    let mut count = Count(0);\n    let lines = wish.write(&mut count);\n    if count.0 > list.len() {\n        return Err(8);\n    }\n    if wish.chosen().any(|module| wish.beyond_reach(module)) {\n        return Err(7);\n    }",
+    ),
+];

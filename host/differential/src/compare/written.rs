@@ -1,0 +1,77 @@
+//! What a port or restore call writes beside values and port.
+
+use super::{Buffers, Difference};
+use crate::lent::Lent;
+use crate::rng::Rng;
+
+/// The outputs of both sides, filled with one number before the call.
+pub struct Written {
+    filler: u8,
+    pub left: Output,
+    pub right: Output,
+}
+
+#[derive(Clone)]
+pub struct Output {
+    /// The reply or the list.
+    pub buffer: Lent<u8>,
+    pub told: Lent<u64>,
+}
+
+impl Written {
+    pub fn new(rng: &mut Rng, buffers: &Buffers) -> Written {
+        let filler = rng.byte();
+        let output = Output {
+            buffer: Lent::new(&vec![filler; buffers.length], 0x5A),
+            told: Lent::new(&vec![u64::from(filler); buffers.told], 99),
+        };
+        Written {
+            filler,
+            left: output.clone(),
+            right: output,
+        }
+    }
+
+    /// Answers, counts and buffers are the same on both sides.
+    pub fn same(&self, answers: (u8, u8), buffers: &str) -> Result<(), Difference> {
+        let (left, right) = (&self.left, &self.right);
+        ensure!(answers.0 == answers.1, "answers differ");
+        ensure!(left.told.view() == right.told.view(), "counts differ");
+        ensure!(
+            left.buffer.view() == right.buffer.view(),
+            "{buffers} differ"
+        );
+        Ok(())
+    }
+
+    /// Nothing was written beside the outputs.
+    pub fn guarded(&self) -> bool {
+        let guarded = |output: &Output| output.buffer.guarded() && output.told.guarded();
+        guarded(&self.left) && guarded(&self.right)
+    }
+
+    /// A refusal writes nothing but zeros for the counts, and 255 not even
+    /// these.
+    pub fn refused(&self, answer: u8) -> Result<(), Difference> {
+        let count = if answer == 255 { self.filler } else { 0 };
+        let mut told = self.right.told.view().iter();
+        ensure!(
+            told.all(|&told| told == u64::from(count)),
+            "a refusal's counts"
+        );
+        ensure!(self.ends_by(0), "a refusal wrote");
+        Ok(())
+    }
+
+    /// Nothing was written to the buffer from this place on.
+    pub fn ends_by(&self, place: usize) -> bool {
+        let rest = self.right.buffer.view().get(place..);
+        rest.is_some_and(|rest| rest.iter().all(|&byte| byte == self.filler))
+    }
+
+    /// The two numbers told by an accepted call.
+    pub fn counts(&self) -> [usize; 2] {
+        let told = self.right.told.view();
+        [told[0] as usize, told[1] as usize]
+    }
+}

@@ -1,0 +1,117 @@
+//! Lines: indices, edits and texts.
+
+use super::{index, line, module};
+use crate::compare::{Compare, Difference};
+use reference::catalogue::{rows, Kind};
+
+/// Each index group of one to three digits, and pairs of groups.
+pub fn indices(compare: &mut Compare) -> Result<(), Difference> {
+    for kind in 1..=6 {
+        let room = module(kind, b"M");
+        for first in 0..1000 {
+            for width in 1..=4 {
+                line(
+                    compare,
+                    &room,
+                    format!("GA\"M\">{first:0width$}").as_bytes(),
+                )?;
+            }
+            for other in 0..4 {
+                line(
+                    compare,
+                    &room,
+                    format!("GA\"M\">{other}>{first}").as_bytes(),
+                )?;
+                line(
+                    compare,
+                    &room,
+                    format!("GA\"M\">{first}>{other}").as_bytes(),
+                )?;
+            }
+        }
+    }
+    Ok(())
+}
+
+/// Each byte put in, put over and left out at each place of some lines.
+pub fn edits(compare: &mut Compare) -> Result<(), Difference> {
+    let lines: [(u8, &[u8]); 7] = [
+        (1, b"SA\"M\">1=-4.5"),
+        (1, b"SA \"M\">2=T"),
+        (1, b"GA\"M\">3"),
+        (4, b"SA\"M\">1>2=-60.5"),
+        (5, b"GA \"M\">2>17"),
+        (6, b"SA\"M\">1>1=43200"),
+        (5, b"SA\"M\">0>8=-3"),
+    ];
+    for (kind, right) in lines {
+        let mut room = module(kind, b"M");
+        for (value, row) in room.1.iter_mut().zip(rows(kind)) {
+            *value = row.high;
+        }
+        for place in 0..=right.len() {
+            for byte in 0..=255 {
+                let mut edited = right.to_vec();
+                edited.insert(place, byte);
+                line(compare, &room, &edited)?;
+                if place < right.len() {
+                    edited.remove(place + 1);
+                    line(compare, &room, &edited)?;
+                }
+            }
+            line(compare, &room, &right[..place])?;
+            line(compare, &room, &right[place..])?;
+        }
+    }
+    Ok(())
+}
+
+/// Each level text and each number text, on each row of its kind.
+pub fn texts(compare: &mut Compare) -> Result<(), Difference> {
+    let mut levels = Vec::new();
+    for whole in (0..10)
+        .map(|n| n.to_string())
+        .chain((0..100).map(|n| format!("{n:02}")))
+    {
+        for tenth in [String::new()]
+            .into_iter()
+            .chain((0..10).map(|n| format!(".{n}")))
+        {
+            for sign in ["", "-"] {
+                levels.push(format!("{sign}{whole}{tenth}"));
+            }
+        }
+    }
+    for kind in 1..=6 {
+        let room = module(kind, b"M");
+        for row in rows(kind) {
+            let begin = format!("SA\"M\"{}=", index(row));
+            match row.kind {
+                Kind::Level => {
+                    for text in &levels {
+                        line(compare, &room, format!("{begin}{text}").as_bytes())?;
+                    }
+                }
+                Kind::Number => {
+                    for width in 1..=6 {
+                        // The short rows need no long way past their bounds.
+                        let most = if row.high > 99 { 100_000 } else { 120 };
+                        for number in 0..most {
+                            let text = format!("{number:0width$}");
+                            line(compare, &room, format!("{begin}{text}").as_bytes())?;
+                            if width > 1 && number > 1200 && number < 43_000 {
+                                break;
+                            }
+                        }
+                    }
+                }
+                Kind::Switch => {
+                    for text in 0..=255u8 {
+                        line(compare, &room, &[begin.as_bytes(), &[text]].concat())?;
+                    }
+                }
+            }
+        }
+    }
+    Ok(())
+}

@@ -1,0 +1,56 @@
+//! Systematic cases: whole small domains, without chance.
+
+mod calls;
+mod lines;
+
+use std::panic::{catch_unwind, AssertUnwindSafe};
+
+use crate::compare::{Buffers, Compare, Difference, Sides};
+use crate::report::Report;
+use crate::rng::Rng;
+use cores::Calls;
+use reference::catalogue::{rows, Row};
+
+const FRESH: [u8; 66] = [0; 66];
+
+/// Compares two cores on every value, text, index and byte that the sweeps
+/// name. Scenario 0 stands for all of them.
+pub fn sweep(left: &Calls, right: &Calls) -> Report {
+    let mut compare = Compare::new(left, right);
+    let played = catch_unwind(AssertUnwindSafe(|| {
+        calls::tables(&mut compare)?;
+        calls::ports(&mut compare)?;
+        lines::indices(&mut compare)?;
+        lines::edits(&mut compare)?;
+        calls::logs(&mut compare)?;
+        lines::texts(&mut compare)?;
+        calls::values(&mut compare)
+    }));
+    compare.tally.scenarios += 1;
+    Report::new(compare.tally, 0, played)
+}
+
+/// A table of one module, with its starting values.
+fn module(kind: u8, label: &[u8]) -> (Vec<u8>, Vec<i64>) {
+    let mut table = vec![0; 33];
+    table[0] = kind;
+    table[1..1 + label.len()].copy_from_slice(label);
+    let values = rows(kind).iter().map(Row::start).collect();
+    (table, values)
+}
+
+fn index(row: &Row) -> String {
+    match row.index {
+        (first, None) => format!(">{first}"),
+        (first, Some(second)) => format!(">{first}>{second}"),
+    }
+}
+
+/// One line with its end on a fresh port.
+fn line(compare: &mut Compare, room: &(Vec<u8>, Vec<i64>), line: &[u8]) -> Result<(), Difference> {
+    let mut sides = Sides::new(&room.1, &FRESH);
+    let given = [line, b"\r"].concat();
+    let rng = &mut Rng::new(1, 1);
+    compare.port(rng, &room.0, &mut sides, &given, &Buffers::USUAL)?;
+    Ok(())
+}

@@ -1,0 +1,128 @@
+use crate::{calls, Port, Refusal, Type};
+
+mod feed;
+mod restore;
+
+pub use feed::Fed;
+
+/// Bytes of a record: kind and label.
+const RECORD: usize = 33;
+const LABEL: usize = 32;
+
+/// A sound table with permitted values.
+#[derive(Clone, Debug, PartialEq, Eq)]
+pub struct Room {
+    table: Vec<u8>,
+    values: Vec<i64>,
+}
+
+/// One module of a room.
+#[derive(Clone, Copy, Debug, PartialEq, Eq)]
+pub struct Module<'a> {
+    /// Its type.
+    pub kind: Type,
+    /// Its label.
+    pub label: &'a [u8],
+    /// The place of its first value.
+    pub start: usize,
+    /// Its values, row by row.
+    pub values: &'a [i64],
+}
+
+impl Room {
+    /// A room of modules with the values that they start with.
+    ///
+    /// ```
+    /// use egrivundo::{Refusal, Room, Type};
+    ///
+    /// let room = Room::new(&[(Type::FeedbackSuppression, "Microphones")])?;
+    /// assert_eq!(room.values(), [0, 1]);
+    ///
+    /// let quoted = Room::new(&[(Type::SmartBass, "a \" in it")]);
+    /// assert_eq!(quoted, Err(Refusal::Table));
+    /// # Ok::<(), Refusal>(())
+    /// ```
+    pub fn new(modules: &[(Type, &str)]) -> Result<Room, Refusal> {
+        let mut table = Vec::with_capacity(modules.len() * RECORD);
+        let mut values = Vec::new();
+        for (kind, label) in modules {
+            // A zero byte would be taken for the label's end.
+            if label.len() > LABEL || label.contains('\0') {
+                return Err(Refusal::Table);
+            }
+            let end = table.len() + RECORD;
+            table.push(kind.number());
+            table.extend_from_slice(label.as_bytes());
+            table.resize(end, 0);
+            values.extend_from_slice(kind.start());
+        }
+        Room::from_parts(table, values)
+    }
+
+    /// A room of a table's bytes and a list of values; tells 1 or 2.
+    ///
+    /// ```
+    /// use egrivundo::{Refusal, Room};
+    ///
+    /// let mut table = vec![0; 33];
+    /// table[..2].copy_from_slice(&[2, b'S']);
+    /// assert!(Room::from_parts(table.clone(), vec![1]).is_ok());
+    /// assert_eq!(Room::from_parts(table.clone(), vec![2]), Err(Refusal::Values));
+    /// table.pop();
+    /// assert_eq!(Room::from_parts(table, vec![1]), Err(Refusal::Table));
+    /// ```
+    pub fn from_parts(table: Vec<u8>, values: Vec<i64>) -> Result<Room, Refusal> {
+        let mut room = Room { table, values };
+        // Zero bytes given change nothing, and are refused as any others.
+        room.feed(&mut Port::new(), &[])?;
+        Ok(room)
+    }
+
+    /// The table's bytes.
+    pub fn table(&self) -> &[u8] {
+        &self.table
+    }
+
+    /// The values, module by module, row by row.
+    pub fn values(&self) -> &[i64] {
+        &self.values
+    }
+
+    /// The modules in table order.
+    pub fn modules(&self) -> impl Iterator<Item = Module<'_>> {
+        let mut start = 0;
+        self.table.chunks_exact(RECORD).map(move |record| {
+            let kind = Type::of_number(record[0]).expect("a sound table has known kinds");
+            let field = &record[1..];
+            let length = field.iter().position(|&byte| byte == 0);
+            let module = Module {
+                kind,
+                label: &field[..length.unwrap_or(LABEL)],
+                start,
+                values: &self.values[start..start + kind.rows()],
+            };
+            start += kind.rows();
+            module
+        })
+    }
+
+    /// The label that a line means, for a log: as it stands in the table
+    /// where exactly one module bears it, else as it stands in the line.
+    ///
+    /// ```
+    /// # use egrivundo::{Room, Type};
+    /// let room = Room::new(&[(Type::SmartBass, "S")])?;
+    /// assert_eq!(room.log(b"SA\"S\">1=O"), b"S");
+    /// assert_eq!(room.log(b"SA\"Other\">1=O"), b"Other");
+    /// assert_eq!(room.log(b"SA"), b"");
+    /// # Ok::<(), egrivundo::Refusal>(())
+    /// ```
+    pub fn log<'a>(&'a self, line: &'a [u8]) -> &'a [u8] {
+        let mut told = [0; 3];
+        let answer = calls::log(&self.table, line, &mut told);
+        assert_eq!(answer, 0, "the log call has no refusal");
+        let [in_table, start, length] = told.map(|number| number as usize);
+        let whole = if in_table == 1 { &self.table } else { line };
+        &whole[start..start + length]
+    }
+}
