@@ -4,6 +4,7 @@ pub mod Each
 pub mod Fits
 pub mod Laws
 pub mod Numbers
+pub mod Permitting
 pub mod Reading
 pub mod Rules
 pub mod Sized

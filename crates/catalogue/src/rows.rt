@@ -109,7 +109,7 @@ pub fn row_count(kind: u8) -> usize
 }
 
 // Where a module type's rows begin in the table.
-fn first_row(kind: u8) -> usize
+pub fn first_row(kind: u8) -> usize
     requires { ⌜ known kind ≡ true ⌝ }
     ensures { λ r. ⌜ r ≡ firstRow kind ⌝ }
 {
@@ -124,7 +124,7 @@ fn first_row(kind: u8) -> usize
 }
 
 // Number j of row n.
-fn number_at(rows: &[[i32; 8]; 50], n: usize, j: usize) -> i64
+pub(crate) fn number_at(rows: &[[i32; 8]; 50], n: usize, j: usize) -> i64
     requires { ⌜ (now rows ≡ numbers) × (n < length catalogue) × (j < 8) ⌝ }
     ensures { λ r. ⌜ r ≡ columnAt n j ⌝ }
 {
@@ -132,7 +132,7 @@ fn number_at(rows: &[[i32; 8]; 50], n: usize, j: usize) -> i64
 }
 
 // Number j of row n, where it is not negative.
-fn natural_at(rows: &[[i32; 8]; 50], n: usize, j: usize) -> u64
+pub(crate) fn natural_at(rows: &[[i32; 8]; 50], n: usize, j: usize) -> u64
     requires { ⌜ (now rows ≡ numbers) × (n < length catalogue) × (j < 8) ⌝ }
     requires { ⌜ T (nonNeg (columnAt n j)) ⌝ }
     ensures { λ r. ⌜ r ≡ natAbs (columnAt n j) ⌝ }

@@ -3,10 +3,10 @@ use crate::parameter::ParameterFound;
 use crate::parameter::parameter_at;
 use crate::parameter::parameter_count;
 use crate::table::body_length;
-use catalogue::permit::permits;
+use catalogue::permit::row_permits;
 use catalogue::permit::start_of;
+use catalogue::rows::first_row;
 use catalogue::rows::row_count;
-use catalogue::rows::row_of;
 ghost use mathlib.Core.Bool.{true};
 ghost use mathlib.Core.Path.{_≡_};
 ghost use Prim.Native.Nat.{_≤_};
@@ -21,10 +21,10 @@ pub fn module_fits(rows: &[[i32; 8]; 50], kind: u8, values: &[i64]) -> bool
     requires { ⌜ (now rows ≡ numbers) × (known kind ≡ true) × (length (now values) ≡ length (rowsOf kind)) ⌝ }
     ensures { λ r. ⌜ r ≡ rowsPermit (rowsOf kind) (now (values .entry)) ⌝ }
 {
+    let first = first_row(kind);
     let mut j = 0;
     while j < values.len() {
-        let row = row_of(rows, kind, j);
-        if !permits(row, values[j]) {
+        if !row_permits(rows, first + j, values[j]) {
             return false;
         }
         j += 1;

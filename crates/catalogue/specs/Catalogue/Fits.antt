@@ -31,6 +31,9 @@ pub catalogue-fits : every (entryTest fits) catalogue ≡ true
 unfolding fits every catalogue level switch number minus
 catalogue-fits = refl
 
-pub row-of-fits : (kind j : ℕ) → known kind ≡ true → j < length (rowsOf kind) → RowFits (rowOf kind j)
+pub entry-fits : (n : ℕ) → n < length catalogue → RowFits (entryAt n .row)
 unfolding entryAt
-row-of-fits kind j k h = rw (in-run kind j k h) (row-fits _ (every-at (entryTest fits) catalogue noEntry catalogue-fits _ (run-within kind j _ k h refl)))
+entry-fits n h = row-fits _ (every-at (entryTest fits) catalogue noEntry catalogue-fits n h)
+
+pub row-of-fits : (kind j : ℕ) → known kind ≡ true → j < length (rowsOf kind) → RowFits (rowOf kind j)
+row-of-fits kind j k h = rw (in-run kind j k h) (entry-fits _ (run-within kind j _ k h refl))

@@ -31,7 +31,7 @@ row-long : (n : ℕ) → length (columns (entryAt n)) ≡ 8
 unfolding columns
 row-long n = refl
 
-number-narrow : (n j : ℕ) → n < length catalogue → j < 8 → SFits w32 (columnAt n j)
+pub number-narrow : (n j : ℕ) → n < length catalogue → j < 8 → SFits w32 (columnAt n j)
 unfolding small smallRow columnAt entryAt
 number-narrow n j h k =
     record { sfits = ltb-true _ _ (every-at small (columns (entryAt n)) (pos 0) (every-at smallRow catalogue noEntry small-rows n h) j (omega (arith, row-long n))) }

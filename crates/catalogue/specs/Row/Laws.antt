@@ -50,11 +50,11 @@ above (negsuc a) (negsuc b) e =
     let h = ltb-false a b e in
     record { by = suc a - suc b; is = rw (le-ltb (suc a) (suc b) (omega arith)); bound = omega arith }
 
-between : (l v h : ℤ) → mag l < 2 ^ 62 → mag h < 2 ^ 62 → ltZ v l ≡ false → ltZ h v ≡ false → mag v < 2 ^ 62
-between l (pos b) (pos c) ml mh e f = let k = ltb-false c b f in omega arith
-between l (pos b) (negsuc c) ml mh e f = absurd (let z : _≡_ {A = ℕ} 0 1 = cc in omega arith)
-between (pos a) (negsuc b) h ml mh e f = absurd (let z : _≡_ {A = ℕ} 0 1 = cc in omega arith)
-between (negsuc a) (negsuc b) h ml mh e f = let k = ltb-false a b e in omega arith
+between : (k : ℕ) (l v h : ℤ) → mag l < k → mag h < k → ltZ v l ≡ false → ltZ h v ≡ false → mag v < k
+between n l (pos b) (pos c) ml mh e f = let k = ltb-false c b f in omega arith
+between n l (pos b) (negsuc c) ml mh e f = absurd (let z : _≡_ {A = ℕ} 0 1 = cc in omega arith)
+between n (pos a) (negsuc b) h ml mh e f = absurd (let z : _≡_ {A = ℕ} 0 1 = cc in omega arith)
+between n (negsuc a) (negsuc b) h ml mh e f = let k = ltb-false a b e in omega arith
 
 -- ---- rules for the code: a signed local is read back from its bits
 
@@ -88,7 +88,7 @@ module _ (r : Row) (v : ℤ) (fit : RowFits r) (sfit : SFits w64 v) where
     from-low = above (r .low) v not-low
 
     near : from-low .by < 2 ^ 63
-    near = omega (arith, from-low .bound, between (r .low) v (r .high) (fit .low-fits) (fit .high-fits) not-low not-high, fit .low-fits)
+    near = omega (arith, from-low .bound, between (2 ^ 62) (r .low) v (r .high) (fit .low-fits) (fit .high-fits) not-low not-high, fit .low-fits)
 
     distance-is : bits v -ℤ bits (r .low) ≡ pos (from-low .by)
     distance-is = rw (toZ-ofZ sfit, value-bits (r .low) (fit .low-fits)) (from-low .is)
@@ -101,6 +101,10 @@ module _ (r : Row) (v : ℤ) (fit : RowFits r) (sfit : SFits w64 v) where
 
     pub distance-wide : Fits w64 (natAbs (bits (bits v -ℤ bits (r .low))))
     distance-wide = rw (toZ-ofZ distance-fits) (fits-natAbs tt distance-fits)
+
+    pub distance-below : (k : ℕ) → mag (r .low) < k → mag (r .high) < k → natAbs (bits (bits v -ℤ bits (r .low))) < k + k
+    distance-below k a b =
+        rw (toZ-ofZ distance-fits, distance-is) (omega (arith, from-low .bound, between k (r .low) v (r .high) a b not-low not-high, a))
 
     pub divided : eqb (natAbs (bits (bits v -ℤ bits (r .low))) % r .step) 0 ≡ permitted r v
     unfolding permitted

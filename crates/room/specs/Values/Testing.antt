@@ -12,11 +12,10 @@ use lib.Seq.{drop-cons}
 use mir.Facts.{toZ-ofZ}
 use mir.Syntax.{w64}
 use mir.Val.{SFits, ofZ, toZ}
-use Rattle.catalogue.specs.Catalogue.{known, rowsOf}
-use Rattle.catalogue.specs.Catalogue.Fits.{row-of-fits}
-use Rattle.catalogue.specs.Catalogue.Rules.{noRow, rowOf}
+use Rattle.catalogue.specs.Catalogue.{firstRow, known, rowsOf}
+use Rattle.catalogue.specs.Catalogue.Laws.{run-row}
+use Rattle.catalogue.specs.Catalogue.Rules.{entryAt, noRow, rowOf}
 use Rattle.catalogue.specs.Row.{permitted}
-use Rattle.catalogue.specs.Row.Laws.{RowFits}
 use Rattle.room.specs.Values.{rowsPermit}
 use Rattle.catalogue.specs.declared.rows.Row.{Row}
 
@@ -33,20 +32,20 @@ tested-start kind vs k e = record { kinds = k; many = e; within = omega arith; r
 pub tested-inside : (kind : ℕ) (vs : List ℤ) (j : ℕ) → Tested kind vs j → j < length vs → j < length (rowsOf kind)
 tested-inside kind vs j s l = omega (arith, s .many)
 
-pub tested-fits : (kind : ℕ) (vs : List ℤ) (j : ℕ) (r : Row) → Tested kind vs j → j < length vs → r ≡ rowOf kind j → RowFits r
-tested-fits kind vs j r s l e = rw e (row-of-fits kind j (s .kinds) (tested-inside kind vs j s l))
-
 head : (r : Row) (rs : List Row) (v : ℤ) (vs : List ℤ) → rowsPermit (r ∷ rs) (v ∷ vs) ≡ (permitted r v && rowsPermit rs vs)
 unfolding rowsPermit
 head r rs v vs = refl
 
-module _ (kind : ℕ) (vs : List ℤ) (j : ℕ) (s : Tested kind vs j) (l : j < length vs) (r : Row) (e : r ≡ rowOf kind j) (t : Bool) (f : SFits w64 (getD vs j (pos 0))) (g : t ≡ permitted r (toZ w64 (ofZ w64 (getD vs j (pos 0))))) where
+module _ (kind : ℕ) (vs : List ℤ) (j : ℕ) (s : Tested kind vs j) (l : j < length vs) (first : ℕ) (e : first ≡ firstRow kind) (t : Bool) (f : SFits w64 (getD vs j (pos 0))) (g : t ≡ permitted (entryAt (first + j) .row) (toZ w64 (ofZ w64 (getD vs j (pos 0))))) where
+  row-is : entryAt (first + j) .row ≡ rowOf kind j
+  row-is = run-row kind j first _ (s .kinds) (tested-inside kind vs j s l) e refl
+
   at-value : rowsPermit (rowsOf kind) vs ≡ (t && rowsPermit (drop (j + 1) (rowsOf kind)) (drop (j + 1) vs))
   unfolding rowOf
   at-value =
       s .rest
       ∙ rw (add-one, drop-cons vs j (pos 0) l, drop-cons (rowsOf kind) j noRow (tested-inside kind vs j s l))
-      (head (getD (rowsOf kind) j noRow) (drop (suc j) (rowsOf kind)) (getD vs j (pos 0)) (drop (suc j) vs) ∙ rw (sym (rw (toZ-ofZ f, e) at g)))
+      (head (getD (rowsOf kind) j noRow) (drop (suc j) (rowsOf kind)) (getD vs j (pos 0)) (drop (suc j) vs) ∙ rw (sym (rw (toZ-ofZ f, row-is) at g)))
 
   pub tested-next : t ≡ true → Tested kind vs (j + 1)
   tested-next h = record { kinds = s .kinds; many = s .many; within = omega arith; rest = rw h at at-value }
@@ -62,4 +61,4 @@ nothing-left (r ∷ rs) = refl
 pub tested-all : (kind : ℕ) (vs : List ℤ) (j : ℕ) → Tested kind vs j → length vs ≤ j → true ≡ rowsPermit (rowsOf kind) vs
 tested-all kind vs j s l = sym (s .rest ∙ rw (drop-of-length-le vs l) (nothing-left (drop j (rowsOf kind))))
 
-pub ruleset testing = (tested-start, tested-inside, tested-fits, tested-next, tested-wrong, tested-all, not-true, not-false)
+pub ruleset testing = (tested-start, tested-inside, tested-next, tested-wrong, tested-all, not-true, not-false)

@@ -2,15 +2,16 @@
 use Prim.Native.Nat.{_-_}
 use borrow.Author.Needs.{needs}
 use lib.ListN.{length}
+use Rattle.catalogue.specs.Catalogue.Laws.{taking}
 use Rattle.room.specs.Values.Testing.{Tested, testing}
 use Rattle.room.proofs.values.module_fits.Statement.{statement}
 use Rattle.room.proofs.values.module_fits.Tie as tie
 
 abbrev Inv-loop : tie.InvT-loop
-Inv-loop rows kind values j₀ j = Tested kind values j
+Inv-loop rows kind values first j₀ j = Tested kind values j
 
 abbrev μ-loop : tie.MeasureT-loop
-μ-loop rows kind values j₀ j = length values - j
+μ-loop rows kind values first j₀ j = length values - j
 
 pub module-fits-spec : {M : Type 1} → statement M
 module-fits-spec =
@@ -18,11 +19,12 @@ module-fits-spec =
     (tie.spec
     Inv-loop
     μ-loop
+    (λ c κs. search (testing, needs))  -- first-row-requires
     (λ c. search (testing, needs))  -- loop-holds
-    (λ c κs. search (testing, needs))  -- row-of-requires
-    (λ c. search (testing, needs))  -- mul-permits
-    (λ c. search (testing, needs))  -- shared-slice-copy-out-permits
-    (λ c κs. search (testing, needs))  -- permits-requires
+    (λ c. search (taking, testing, needs))  -- add-row-permits
+    (λ c. search (testing, needs))  -- mul-row-permits
+    (λ c. search (testing, needs))  -- shared-slice-copy-out-row-permits
+    (λ c κs. search (taking, testing, needs))  -- row-permits-requires
     (λ c. search (testing, needs))  -- returns
     (λ c. search (testing, needs))  -- add-j
     (λ c. search (testing, needs))  -- loop-less
