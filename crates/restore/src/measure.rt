@@ -30,10 +30,11 @@ fn row_lines(
     table: &[u8],
     rows: &[[i32; 8]; 50],
     m: Module,
+    size: usize,
     present: &[i64],
     wanted: &[i64],
 ) -> Measured
-    requires { ⌜ (now rows ≡ numbers) × (known (m .kind) ≡ true) × (m .place + 33 ≤ length (now table)) ⌝ }
+    requires { ⌜ (now rows ≡ numbers) × (known (m .kind) ≡ true) × (size ≡ length (label (now table) m)) ⌝ }
     requires { ⌜ (length (now present) ≡ length (rowsOf (m .kind))) × (length (now wanted) ≡ length (rowsOf (m .kind))) ⌝ }
     ensures { λ r. ⌜ Settles (now (table .entry)) (rowChanges m (now (present .entry)) (now (wanted .entry))) r ⌝ }
 {
@@ -58,19 +59,19 @@ fn row_lines(
             number,
             row,
         };
-        bytes += say_line_length(table, p, from, to);
+        bytes += say_line_length(table, p, size, from, to);
         lines += 1;
     }
     Measured::Within(bytes, lines)
 }
 
 // Whether a module alone bears its label.
-fn borne_once(table: &[u8], m: Module) -> bool
-    requires { ⌜ (sound (now table) ≡ true) × (m .place + 33 ≤ length (now table)) ⌝ }
+fn borne_once(table: &[u8], m: Module, size: usize) -> bool
+    requires { ⌜ (sound (now table) ≡ true) × (m .place + 33 ≤ length (now table)) × (size ≡ length (label (now table) m)) ⌝ }
     ensures { λ r. ⌜ r ≡ borneOnce (bearer (now (table .entry)) (label (now (table .entry)) m)) ⌝ }
 {
     let start = m.place + 1;
-    let end = start + label_length(table, m.place);
+    let end = start + size;
     match find_bearer(table, &table[start..end]) {
         Bearer::Only(_) => true,
         Bearer::NotOne => false,
@@ -82,16 +83,25 @@ fn module_lines(
     table: &[u8],
     rows: &[[i32; 8]; 50],
     m: Module,
+    size: usize,
     present: &[i64],
     selection: &[u8],
     wanted: &[i64],
 ) -> Measured
     requires { ⌜ (now rows ≡ numbers) × Standing (now table) (now present) (now selection) (now wanted) m ⌝ }
+    requires { ⌜ size ≡ length (label (now table) m) ⌝ }
     ensures { λ r. ⌜ Settles (now (table .entry)) (rowChanges m (valuesOf m (now (present .entry))) (valuesOf m (now (wanted .entry)))) r ⌝ }
 {
     let first = m.first;
     let end = first + row_count(m.kind);
-    row_lines(table, rows, m, &present[first..end], &wanted[first..end])
+    row_lines(
+        table,
+        rows,
+        m,
+        size,
+        &present[first..end],
+        &wanted[first..end],
+    )
 }
 
 // The changes of a module: beyond reach too where there is one and the module does not alone bear its label.
@@ -110,13 +120,14 @@ fn measure_module(
     if selection[number] != 1 {
         return Measured::Within(0, 0);
     }
-    match module_lines(table, rows, m, present, selection, wanted) {
+    let size = label_length(table, m.place);
+    match module_lines(table, rows, m, size, present, selection, wanted) {
         Measured::Beyond => Measured::Beyond,
         Measured::Within(bytes, lines) => {
             if lines == 0 {
                 return Measured::Within(bytes, lines);
             }
-            if !borne_once(table, m) {
+            if !borne_once(table, m, size) {
                 return Measured::Beyond;
             }
             Measured::Within(bytes, lines)

@@ -1,6 +1,7 @@
 // Writing the restore list: each line is put down from where the one before ended.
 use catalogue::rows::row_count;
 use catalogue::rows::row_of;
+use room::label::label_length;
 use room::parameter::Parameter;
 use room::table::Module;
 use room::table::body_length;
@@ -11,6 +12,7 @@ ghost use mathlib.Core.Path.{_≡_};
 ghost use Prim.Native.Nat.{_+_, _≤_};
 ghost use lib.ListN.{length};
 ghost use Rattle.catalogue.specs.Catalogue.{known, numbers, rowsOf};
+ghost use Rattle.room.specs.Label.{label};
 ghost use Rattle.text.specs.Written.{Wrote};
 ghost use Rattle.wire.specs.Say.{say};
 ghost use Rattle.restore.specs.Demand.{Admitted};
@@ -18,12 +20,20 @@ ghost use Rattle.restore.specs.Listing.{changes, listing};
 ghost use Rattle.restore.specs.Measuring.{Standing, moduleChanges, rowChanges};
 
 // One set line with its 0D, put down at a place: the part of the buffer that is left is lent on.
-fn write_line(table: &[u8], p: Parameter, from: i64, to: i64, list: &mut [u8], at: usize) -> usize
-    requires { ⌜ p .owner .place + 33 ≤ length (now table) ⌝ }
+fn write_line(
+    table: &[u8],
+    p: Parameter,
+    size: usize,
+    from: i64,
+    to: i64,
+    list: &mut [u8],
+    at: usize,
+) -> usize
+    requires { ⌜ (p .owner .place + 33 ≤ length (now table)) × (size ≡ length (label (now table) (p .owner))) ⌝ }
     requires { ⌜ at + length (say (now table) p from to ++ (0x0D ∷ [])) ≤ length (now list) ⌝ }
     ensures { λ r. ⌜ Wrote (now (list .entry)) at (say (now (table .entry)) p from to ++ (0x0D ∷ [])) r (now (list .exit)) ⌝ }
 {
-    at + put_say_line(table, p, from, to, &mut list[at..])
+    at + put_say_line(table, p, size, from, to, &mut list[at..])
 }
 
 // The lines of a module's rows.
@@ -31,12 +41,13 @@ fn write_rows(
     table: &[u8],
     rows: &[[i32; 8]; 50],
     m: Module,
+    size: usize,
     present: &[i64],
     wanted: &[i64],
     list: &mut [u8],
     start: usize,
 ) -> usize
-    requires { ⌜ (now rows ≡ numbers) × (known (m .kind) ≡ true) × (m .place + 33 ≤ length (now table)) ⌝ }
+    requires { ⌜ (now rows ≡ numbers) × (known (m .kind) ≡ true) × (m .place + 33 ≤ length (now table)) × (size ≡ length (label (now table) m)) ⌝ }
     requires { ⌜ (length (now present) ≡ length (rowsOf (m .kind))) × (length (now wanted) ≡ length (rowsOf (m .kind))) ⌝ }
     requires { ⌜ start + length (listing (now table) (rowChanges m (now present) (now wanted))) ≤ length (now list) ⌝ }
     ensures { λ r. ⌜ Wrote (now (list .entry)) start (listing (now (table .entry)) (rowChanges m (now (present .entry)) (now (wanted .entry)))) r (now (list .exit)) ⌝ }
@@ -57,7 +68,7 @@ fn write_rows(
             number,
             row: row_of(rows, kind, number),
         };
-        at = write_line(table, p, from, to, list, at);
+        at = write_line(table, p, size, from, to, list, at);
     }
     at
 }
@@ -81,12 +92,14 @@ fn write_module(
     if selection[number] != 1 {
         return at;
     }
+    let size = label_length(table, m.place);
     let first = m.first;
     let end = first + row_count(m.kind);
     write_rows(
         table,
         rows,
         m,
+        size,
         &present[first..end],
         &wanted[first..end],
         list,

@@ -1,11 +1,11 @@
 // How long a parameter's name is, to be known before it is written.
 use catalogue::rows::Indices;
-use room::label::label_length;
 use room::parameter::Parameter;
 use text::length::number_length;
 ghost use mathlib.Core.Path.{_≡_};
-ghost use Prim.Native.Nat.{_+_, _≤_};
+ghost use Prim.Native.Nat.{_≤_};
 ghost use lib.ListN.{length};
+ghost use Rattle.room.specs.Label.{label};
 ghost use Rattle.wire.specs.Reply.{indexText, name};
 ghost use Rattle.wire.specs.Reply.Naming.{groupText};
 
@@ -26,13 +26,12 @@ fn index_length(indices: Indices) -> usize
     }
 }
 
-// How long the name of a parameter is.
-pub(crate) fn name_length(table: &[u8], p: Parameter) -> usize
-    requires { ⌜ p .owner .place + 33 ≤ length (now table) ⌝ }
+// How long the name of a parameter is, whose label is `size` bytes long.
+pub(crate) fn name_length(table: &[u8], p: Parameter, size: usize) -> usize
+    requires { ⌜ size ≡ length (label (now table) (p .owner)) ⌝ }
     ensures { λ r. ⌜ (r ≡ length (name (now (table .entry)) p)) × (r ≤ 76) ⌝ }
 {
-    let owner = p.owner;
     let row = p.row;
     let indices = row.indices;
-    2 + label_length(table, owner.place) + index_length(indices)
+    2 + size + index_length(indices)
 }

@@ -1,6 +1,7 @@
 // Replies, written at the start of the reply buffer.
 use crate::name::put_front;
 use catalogue::rows::Kind;
+use room::label::label_length;
 use room::parameter::Parameter;
 use text::sign::magnitude;
 use text::write::put_byte;
@@ -50,7 +51,9 @@ pub fn put_get(table: &[u8], p: Parameter, v: i64, reply: &mut [u8]) -> usize
 {
     let row = p.row;
     let kind = row.kind;
-    let next = put_front(table, p, b'G', reply);
+    let owner = p.owner;
+    let size = label_length(table, owner.place);
+    let next = put_front(table, p, size, b'G', reply);
     let end = put_told(reply, next, kind, v);
     put_byte(reply, end, 0x0D)
 }

@@ -2,6 +2,7 @@
 use crate::length::name_length;
 use crate::name::put_front;
 use catalogue::rows::Kind;
+use room::label::label_length;
 use room::parameter::Parameter;
 use text::length::level_length;
 use text::length::number_length;
@@ -15,6 +16,7 @@ ghost use mathlib.Core.Path.{_≡_};
 ghost use Prim.Native.Nat.{_+_, _≤_};
 ghost use lib.ListN.{length};
 ghost use Rattle.text.specs.Written.{Wrote};
+ghost use Rattle.room.specs.Label.{label};
 ghost use Rattle.wire.specs.Say.{say, setText};
 
 // How long a value's text is.
@@ -35,17 +37,19 @@ pub fn say_length(table: &[u8], p: Parameter, present: i64, wanted: i64) -> usiz
 {
     let row = p.row;
     let kind = row.kind;
-    3 + name_length(table, p) + text_length(kind, wanted)
+    let owner = p.owner;
+    let size = label_length(table, owner.place);
+    3 + name_length(table, p, size) + text_length(kind, wanted)
 }
 
-// How long the set line is with its 0D.
-pub fn say_line_length(table: &[u8], p: Parameter, present: i64, wanted: i64) -> usize
-    requires { ⌜ p .owner .place + 33 ≤ length (now table) ⌝ }
+// How long the set line is with its 0D, where the label is `size` bytes long.
+pub fn say_line_length(table: &[u8], p: Parameter, size: usize, present: i64, wanted: i64) -> usize
+    requires { ⌜ size ≡ length (label (now table) (p .owner)) ⌝ }
     ensures { λ r. ⌜ r ≡ length (say (now (table .entry)) p present wanted ++ (0x0D ∷ [])) ⌝ }
 {
     let row = p.row;
     let kind = row.kind;
-    4 + name_length(table, p) + text_length(kind, wanted)
+    4 + name_length(table, p, size) + text_length(kind, wanted)
 }
 
 // A value in its shortest text.
@@ -60,15 +64,22 @@ fn put_text(buffer: &mut [u8], at: usize, kind: Kind, v: i64) -> usize
     }
 }
 
-// The set line, without its 0D.
-pub fn put_say(table: &[u8], p: Parameter, present: i64, wanted: i64, buffer: &mut [u8]) -> usize
-    requires { ⌜ p .owner .place + 33 ≤ length (now table) ⌝ }
+// The set line, without its 0D, where the label is `size` bytes long.
+pub fn put_say(
+    table: &[u8],
+    p: Parameter,
+    size: usize,
+    present: i64,
+    wanted: i64,
+    buffer: &mut [u8],
+) -> usize
+    requires { ⌜ (p .owner .place + 33 ≤ length (now table)) × (size ≡ length (label (now table) (p .owner))) ⌝ }
     requires { ⌜ length (say (now table) p present wanted) ≤ length (now buffer) ⌝ }
     ensures { λ r. ⌜ Wrote (now (buffer .entry)) 0 (say (now (table .entry)) p present wanted) r (now (buffer .exit)) ⌝ }
 {
     let row = p.row;
     let kind = row.kind;
-    let next = put_front(table, p, b'S', buffer);
+    let next = put_front(table, p, size, b'S', buffer);
     put_text(buffer, next, kind, wanted)
 }
 
@@ -76,14 +87,15 @@ pub fn put_say(table: &[u8], p: Parameter, present: i64, wanted: i64, buffer: &m
 pub fn put_say_line(
     table: &[u8],
     p: Parameter,
+    size: usize,
     present: i64,
     wanted: i64,
     buffer: &mut [u8],
 ) -> usize
-    requires { ⌜ p .owner .place + 33 ≤ length (now table) ⌝ }
+    requires { ⌜ (p .owner .place + 33 ≤ length (now table)) × (size ≡ length (label (now table) (p .owner))) ⌝ }
     requires { ⌜ length (say (now table) p present wanted ++ (0x0D ∷ [])) ≤ length (now buffer) ⌝ }
     ensures { λ r. ⌜ Wrote (now (buffer .entry)) 0 (say (now (table .entry)) p present wanted ++ (0x0D ∷ [])) r (now (buffer .exit)) ⌝ }
 {
-    let end = put_say(table, p, present, wanted, buffer);
+    let end = put_say(table, p, size, present, wanted, buffer);
     put_byte(buffer, end, 0x0D)
 }

@@ -19,7 +19,7 @@ as-many zero s = refl
 as-many (suc n) [] = refl
 as-many (suc n) (b ∷ s) = ap (λ u. b ∷ u) (as-many n s)
 
-module _ (t : List ℕ) (m : Module) (n : ℕ) (e : n ≡ length (before 0 (take 32 (drop (m .place + 1) t)))) where
+module _ (t : List ℕ) (m : Module) (n : ℕ) (e : n ≡ length (label t m)) where
   -- the part of the table that is the label
   label-part : take (m .place + 1 + n - (m .place + 1)) (drop (m .place + 1) t) ≡ label t m
   unfolding label before

@@ -3,10 +3,9 @@ use mathlib.Core.Path.{_≡_}
 use mathlib.Core.List.{List}
 use Prim.Native.Nat.{ℕ, _+_, _≤_, _<_, _^_}
 use native.Mathlib.Omega.{arith}
-use lib.ListN.{length, take, drop, length-append}
+use lib.ListN.{length, length-append}
 use mir.Syntax.{w64}
 use mir.Val.{Fits}
-use Rattle.text.specs.Cut.{before}
 use Rattle.text.specs.Digits.{digits}
 use Rattle.text.specs.Digits.Value.{digits-short}
 use Rattle.catalogue.specs.declared.rows.Indices.{Indices}
@@ -48,7 +47,7 @@ pub ruleset index-lengths = (one-length, two-length)
 
 -- ---- the name
 
-module _ (t : List ℕ) (p : Parameter) (n : ℕ) (e : n ≡ length (before 0 (take 32 (drop (p .owner .place + 1) t)))) where
+module _ (t : List ℕ) (p : Parameter) (n : ℕ) (e : n ≡ length (label t (p .owner))) where
   pub label-length-fits : Fits w64 (2 + n)
   label-length-fits = let s = label-short t (p .owner) n e in record { fits = omega arith }
 
@@ -56,7 +55,7 @@ module _ (t : List ℕ) (p : Parameter) (n : ℕ) (e : n ≡ length (before 0 (t
   name-length-fits r h = let s = label-short t (p .owner) n e in record { fits = omega arith }
 
   pub name-length-is : (r : ℕ) → r ≡ length (indexText (p .row .indices)) → 2 + n + r ≡ length (name t p)
-  unfolding name label
+  unfolding name
   name-length-is r h = simp length-append (omega arith)
 
   pub name-length-short : (r : ℕ) → r ≤ 42 → 2 + n + r ≤ 76

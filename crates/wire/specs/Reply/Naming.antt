@@ -93,9 +93,14 @@ as-many zero s = refl
 as-many (suc n) [] = refl
 as-many (suc n) (x ∷ s) = ap (λ u. x ∷ u) (as-many n s)
 
-module _ (t : List ℕ) (m : Module) (n : ℕ) (e : n ≡ length (before 0 (take 32 (drop (m .place + 1) t)))) where
+-- the length that was counted is the label's
+pub label-long : (t : List ℕ) (m : Module) (n : ℕ) → n ≡ length (before 0 (take 32 (drop (m .place + 1) t))) → n ≡ length (label t m)
+unfolding label
+label-long t m n e = e
+
+module _ (t : List ℕ) (m : Module) (n : ℕ) (e : n ≡ length (label t m)) where
   pub label-short : n ≤ 32
-  unfolding before
+  unfolding label before
   label-short =
       let f = take 32 (drop (m .place + 1) t) in
       omega (arith, length-take (indexOf 0 f) f, length-take 32 (drop (m .place + 1) t))

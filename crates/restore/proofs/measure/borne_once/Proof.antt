@@ -10,7 +10,6 @@ borne-once-spec =
     tie.close
     (tie.spec
     (λ c. search (bearing, label-writing, needs))  -- add-start
-    (λ c κs. search (bearing, label-writing, needs))  -- label-length-requires
     (λ c. search (bearing, label-writing, needs))  -- add-end
     (λ c. search (bearing, label-writing, needs))  -- sub-find-bearer
     (λ c. search (bearing, label-writing, needs))  -- part-find-bearer-start

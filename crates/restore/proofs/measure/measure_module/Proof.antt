@@ -1,5 +1,6 @@
 -- `measure_module`: the rows are measured, and the label is sought where one changes.
 use borrow.Author.Needs.{needs}
+use Rattle.wire.specs.Reply.Naming.{label-long}
 use Rattle.restore.specs.Measuring.OneModule.{module-measuring}
 use Rattle.restore.proofs.measure.measure_module.Statement.{statement}
 use Rattle.restore.proofs.measure.measure_module.Tie as tie
@@ -10,11 +11,12 @@ measure-module-spec =
     (tie.spec
     (λ c. search (module-measuring, needs))  -- shared-slice-read-if1
     (λ c. search (module-measuring, needs))  -- returns
-    (λ c κs. search (module-measuring, needs))  -- module-lines-requires
+    (λ c κs. search (module-measuring, needs))  -- label-length-requires
+    (λ c κs. search (module-measuring, label-long, needs))  -- module-lines-requires
     (λ c. search (module-measuring, needs))  -- enum-told
     (λ c. search (module-measuring, needs))  -- enum-known-bytes
     (λ c. search (module-measuring, needs))  -- returns-2
-    (λ c κs. search (module-measuring, needs))  -- borne-once-requires
+    (λ c κs. search (module-measuring, label-long, needs))  -- borne-once-requires
     (λ c. search (module-measuring, needs))  -- returns-3
     (λ c. search (module-measuring, needs))  -- returns-4
     (λ c. search (module-measuring, needs)))  -- returns-5

@@ -1,5 +1,6 @@
 -- `write_module`: the parts handed on are the module's own.
 use borrow.Author.Needs.{needs}
+use Rattle.wire.specs.Reply.Naming.{label-long}
 use Rattle.restore.specs.Measuring.Part.{parting, values-part, wishes-part}
 use Rattle.restore.specs.Writing.OneModule.{chosen-room, module-putting}
 use Rattle.restore.proofs.write.write_module.Statement.{statement}
@@ -11,6 +12,7 @@ write-module-spec =
     (tie.spec
     (λ c. search (module-putting, parting, needs))  -- shared-slice-read-if1
     (λ c. search (module-putting, parting, needs))  -- returns
+    (λ c κs. search needs)  -- label-length-requires
     (λ c κs. search (module-putting, parting, needs))  -- row-count-requires
     (λ c. search (module-putting, parting, needs))  -- add-end
     (λ c. search (module-putting, parting, needs))  -- mul-write-rows
@@ -21,6 +23,6 @@ write-module-spec =
     (λ c. search (module-putting, parting, needs))  -- sub-write-rows-2
     (λ c. search (module-putting, parting, needs))  -- part-write-rows-start-2
     (λ c. search (module-putting, parting, needs))  -- part-write-rows-end-2
-    (λ c κs. ((search needs, search needs, search needs), ((search (values-part, needs), search (wishes-part, needs)), search (chosen-room, needs))))  -- write-rows-requires
+    (λ c κs. ((search needs, search needs, search needs, search (label-long, needs)), ((search (values-part, needs), search (wishes-part, needs)), search (chosen-room, needs))))  -- write-rows-requires
     (λ c. search (module-putting, parting, needs))  -- same-length
     (λ c. search (module-putting, parting, needs)))  -- returns-2

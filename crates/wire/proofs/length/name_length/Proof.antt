@@ -8,7 +8,6 @@ pub name-length-spec : {M : Type 1} → statement M
 name-length-spec =
     tie.close
     (tie.spec
-    (λ c κs. search (name-lengths, needs))
     (λ c. search (name-lengths, needs))
     (λ c κs. search (name-lengths, needs))
     (λ c. search (name-lengths, needs))

@@ -9,7 +9,6 @@ put-label-spec =
     tie.close
     (tie.spec
     (λ c. search (label-writing, needs))
-    (λ c κs. search (label-writing, needs))
     (λ c. search (label-writing, needs))
     (λ c. search (label-writing, needs))
     (λ c. search (label-writing, needs))
