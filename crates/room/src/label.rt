@@ -53,14 +53,16 @@ pub fn find_bearer(table: &[u8], text: &[u8]) -> Bearer
         number += 1;
         place = label + body_length(kind);
         first += row_count(kind);
-        let mut i = 0;
-        while i < text.len() {
+        // From the end on: the labels of a room are more alike at their beginnings.
+        let mut i = text.len();
+        while 0 < i {
+            i -= 1;
             if table[label + i] != text[i] {
                 continue 'records;
             }
-            i += 1;
         }
-        if i < 32 && table[label + i] != 0 {
+        let size = text.len();
+        if size < 32 && table[label + size] != 0 {
             continue 'records;
         }
         if let Bearer::Only(_) = found {

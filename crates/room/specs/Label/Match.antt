@@ -3,12 +3,11 @@ use mathlib.Core.Path.{_≡_, refl, sym, ap, _∙_}
 use mathlib.Core.Bool.{Bool, true, false, cond}
 use mathlib.Core.List.{List, [], _∷_}
 use Prim.Native.Nat.{ℕ, zero, suc, _+_, _-_, _≤_, _<_}
-use native.Mathlib.Numerals.{add-one}
 use native.Mathlib.Omega.{arith}
 use borrow.Author.Tests.{eqb-true, eq-eqb, ne-eqb, ltb-true, ltb-false}
 use lib.Dec.{eqb, ltb}
 use lib.ListN.{length, getD, take, drop, length-take, length-drop, List·getD-eq-default}
-use lib.Seq.{getD-drop, getD-take, length-take-le, take-all, take-suc, take-take}
+use lib.Seq.{drop-cons, getD-drop, getD-take, length-take-le, take-take}
 use Rattle.text.specs.Cut.{before, indexOf}
 use Rattle.catalogue.specs.Every.{both-left, both-right}
 use Rattle.catalogue.specs.Every.{every}
@@ -64,23 +63,26 @@ index-at (suc n) (b ∷ s) l e z =
 
 -- ---- the label against the text
 
--- the text's first i bytes stand where the label does
+-- the text's bytes from i on stand where the label does
 pub record Compared (t text : List ℕ) (label i : ℕ) : Type 0 where
   pub room : label + 32 ≤ length t
   pub within : i ≤ length text
   pub short : length text ≤ 32
-  pub bytes : take i (drop label t) ≡ take i text
+  pub bytes : drop i (take (length text) (drop label t)) ≡ drop i text
 
-pub compared-next : (t text : List ℕ) (label i : ℕ) → Compared t text label i → i < length text → getD t (label + i) 0 ≡ getD text i 0
-    → Compared t text label (i + 1)
+pub compared-next : (t text : List ℕ) (label i : ℕ) → Compared t text label i → 0 < i → getD t (label + (i - 1)) 0 ≡ getD text (i - 1) 0
+    → Compared t text label (i - 1)
 compared-next t text label i h l e =
-    let a : i < length (drop label t) = simp length-drop (omega arith) in
-    let g : getD (drop label t) i 0 ≡ getD text i 0 = getD-drop label t i 0 ∙ e in
+    let p = take (length text) (drop label t) in
+    let b : i - 1 < length text = omega (arith, h .within) in
+    let a : i - 1 < length p = simp (length-take, length-drop) (omega (arith, h .room, h .short)) in
+    let g : getD p (i - 1) 0 ≡ getD text (i - 1) 0 = getD-take (length text) (drop label t) (i - 1) 0 b ∙ getD-drop label t (i - 1) 0 ∙ e in
+    let z : suc (i - 1) ≡ i = omega arith in
     record {
       room = h .room;
-      within = omega arith;
+      within = omega (arith, h .within);
       short = h .short;
-      bytes = rw (add-one i, take-suc (drop label t) i 0 a, take-suc text i 0 l, h .bytes, g);
+      bytes = rw (drop-cons p (i - 1) 0 a, drop-cons text (i - 1) 0 b, z, h .bytes, g);
     }
 
 field-at : (t : List ℕ) (label i : ℕ) → i < 32 → getD (take 32 (drop label t)) i 0 ≡ getD t (label + i) 0
@@ -89,7 +91,7 @@ field-at t label i l = rw (getD-take 32 (drop label t) i 0 l, getD-drop)
 field-length : (t : List ℕ) (label : ℕ) → label + 32 ≤ length t → length (take 32 (drop label t)) ≡ 32
 field-length t label l = simp (length-take, length-drop) (omega arith)
 
-pub differs : (t text : List ℕ) (label i : ℕ) → Compared t text label i → i < length text → (getD t (label + i) 0 ≡ getD text i 0 → ⊥)
+pub differs : (t text : List ℕ) (label i : ℕ) → length text ≤ 32 → i < length text → (getD t (label + i) 0 ≡ getD text i 0 → ⊥)
     → before 0 (take 32 (drop label t)) ≡ text → ⊥
 unfolding before
 differs t text label i h l n e =
@@ -99,30 +101,32 @@ differs t text label i h l n e =
     let j : i < 32 = omega arith in
     n (sym (field-at t label i j) ∙ sym (getD-take (indexOf 0 f) f i 0 k) ∙ ap (λ s. getD s i 0) e)
 
-pub longer : (t text : List ℕ) (label i : ℕ) → Compared t text label i → length text ≤ i → i < 32 → (getD t (label + i) 0 ≡ 0 → ⊥)
+pub longer : (t text : List ℕ) (label : ℕ) → label + 32 ≤ length t → length text < 32 → (getD t (label + length text) 0 ≡ 0 → ⊥)
     → before 0 (take 32 (drop label t)) ≡ text → ⊥
 unfolding before
-longer t text label i h l s n e =
+longer t text label room s n e =
     let f = take 32 (drop label t) in
     let c : length (take (indexOf 0 f) f) ≡ length text = ap length e in
-    let d : length f ≡ 32 = field-length t label (h .room) in
-    let k : indexOf 0 f ≡ i = omega (arith, length-take (indexOf 0 f) f) in
-    n (sym (field-at t label i s) ∙ rw k at (index-zero f))
+    let d : length f ≡ 32 = field-length t label room in
+    let k : indexOf 0 f ≡ length text = omega (arith, length-take (indexOf 0 f) f) in
+    n (sym (field-at t label (length text) s) ∙ rw k at (index-zero f))
 
-pub matches : (t text : List ℕ) (label i : ℕ) → Compared t text label i → length text ≤ i → labelRight text ≡ true
-    → (i < 32 → getD t (label + i) 0 ≡ 0) → before 0 (take 32 (drop label t)) ≡ text
+pub matches : (t text : List ℕ) (label i : ℕ) → Compared t text label i → i ≤ 0 → labelRight text ≡ true
+    → (length text < 32 → getD t (label + length text) 0 ≡ 0) → before 0 (take 32 (drop label t)) ≡ text
 unfolding before
 matches t text label i h l r z =
     let f = take 32 (drop label t) in
-    let whole : take i f ≡ text = take-take i 32 (drop label t) (omega arith) ∙ h .bytes ∙ take-all i text l in
-    let each : every labelByte (take i f) ≡ true = rw whole (label-right text r .each) in
-    let k : indexOf 0 f ≡ i = index-at i f (omega (arith, field-length t label (h .room))) each (ended (ltb i 32) refl) in
+    let n = length text in
+    let o : i ≡ 0 = omega arith in
+    let whole : take n f ≡ text = take-take n 32 (drop label t) (h .short) ∙ rw o at (h .bytes) in
+    let each : every labelByte (take n f) ≡ true = rw whole (label-right text r .each) in
+    let k : indexOf 0 f ≡ n = index-at n f (omega (arith, h .short, field-length t label (h .room))) each (ended (ltb n 32) refl) in
     rw k whole
   where
-    ended : (b : Bool) → ltb i 32 ≡ b → getD (take 32 (drop label t)) i 0 ≡ 0
-    ended true e = field-at t label i (ltb-true i 32 e) ∙ z (ltb-true i 32 e)
+    ended : (b : Bool) → ltb (length text) 32 ≡ b → getD (take 32 (drop label t)) (length text) 0 ≡ 0
+    ended true e = field-at t label (length text) (ltb-true (length text) 32 e) ∙ z (ltb-true (length text) 32 e)
     ended false e =
-        let p = ltb-false i 32 e in
+        let p = ltb-false (length text) 32 e in
         List·getD-eq-default (take 32 (drop label t)) 0 (omega (arith, field-length t label (h .room)))
 
 -- the label's length, told by its first zero byte

@@ -2,11 +2,11 @@
 use mathlib.Core.Path.{_≡_, refl, sym, _∙_}
 use mathlib.Core.Bool.{Bool, true, false, not}
 use mathlib.Core.List.{List, [], _∷_}
-use Prim.Native.Nat.{ℕ, _+_, _≤_, _<_}
+use Prim.Native.Nat.{ℕ, _+_, _-_, _≤_, _<_}
 use native.Mathlib.Omega.{arith}
 use borrow.Author.Tests.{eqb-false, eqb-true, not-true, not-false}
 use lib.Dec.{eqb}
-use lib.ListN.{length, getD, take, drop}
+use lib.ListN.{length, getD, take, drop, drop-of-length-le, length-take}
 use Rattle.text.specs.Cut.{before}
 use Rattle.catalogue.specs.Catalogue.{rowsOf}
 use Rattle.room.specs.Table.{bodyLength, labelRight, sound}
@@ -53,9 +53,17 @@ sought-start t text r s e n =
     record { walk = walk-start t s; right = right; short = label-right text right .most; rest = rw (modules-start t) }
 
 pub compared-start : (t text : List ℕ) (found : Bearer) (number place first : ℕ) → Sought t text found number place first → place < length t
-    → Compared t text (place + 1) 0
+    → Compared t text (place + 1) (length text)
 compared-start t text found number place first h l =
-    record { room = record-room t number place first (h .walk) l; within = omega arith; short = h .short; bytes = refl }
+    let p = take (length text) (drop (place + 1) t) in
+    let few : length p ≤ length text = omega (arith, length-take (length text) (drop (place + 1) t)) in
+    let all : length text ≤ length text = omega arith in
+    record {
+      room = record-room t number place first (h .walk) l;
+      within = omega arith;
+      short = h .short;
+      bytes = drop-of-length-le p few ∙ sym (drop-of-length-le text all);
+    }
 
 pub sought-end : (t text : List ℕ) (found : Bearer) (number place first : ℕ) → Sought t text found number place first → length t ≤ place
     → found ≡ bearer t text
@@ -89,22 +97,23 @@ module _ (t text : List ℕ) (found : Bearer) (number place first size rows : �
         rest = h .rest ∙ rw (modules-next t number place first (h .walk) l size rows s n, bears-not t text here _ d);
       }
 
-  pub sought-differs : (i : ℕ) → Compared t text (place + 1) i → i < length text → (getD t (place + 1 + i) 0 ≡ getD text i 0 → ⊥)
+  pub sought-differs : (i : ℕ) → Compared t text (place + 1) i → 0 < i → (getD t (place + 1 + (i - 1)) 0 ≡ getD text (i - 1) 0 → ⊥)
       → Sought t text found (number + 1) (place + 1 + size) (first + rows)
-  sought-differs i c b d = sought-pass (differs t text (place + 1) i c b d)
+  sought-differs i c b d = sought-pass (differs t text (place + 1) (i - 1) (h .short) (omega (arith, c .within)) d)
 
-  pub sought-longer : (i k : ℕ) → Compared t text (place + 1) i → length text ≤ i → i < k → k ≤ 32 → not (eqb (getD t (place + 1 + i) 0) 0) ≡ true
+  pub sought-longer : (i k : ℕ) → Compared t text (place + 1) i → length text < k → k ≤ 32 → not (eqb (getD t (place + 1 + length text) 0) 0) ≡ true
       → Sought t text found (number + 1) (place + 1 + size) (first + rows)
-  sought-longer i k c b s m d = sought-pass (longer t text (place + 1) i c b (omega arith) (eqb-false (getD t (place + 1 + i) 0) 0 (not-true _ d)))
+  sought-longer i k c s m d =
+      sought-pass (longer t text (place + 1) (c .room) (omega arith) (eqb-false (getD t (place + 1 + length text) 0) 0 (not-true _ d)))
 
-  matched : (i : ℕ) → Compared t text (place + 1) i → length text ≤ i → Ended t (place + 1) i
+  matched : (i : ℕ) → Compared t text (place + 1) i → i ≤ 0 → Ended t (place + 1) (length text)
       → bearer t text ≡ counting found (here ∷ bearersIn t text (modulesAt t (number + 1) (place + 1 + size) (first + rows)))
   unfolding label
   matched i c b z =
       let e : label t here ≡ text = matches t text (place + 1) i c b (h .right) (z .zero-byte) in
       h .rest ∙ rw (modules-next t number place first (h .walk) l size rows s n, bears t text here _ e)
 
-  pub sought-first : (i : ℕ) → Compared t text (place + 1) i → length text ≤ i → Ended t (place + 1) i → found ≡ NotOne
+  pub sought-first : (i : ℕ) → Compared t text (place + 1) i → i ≤ 0 → Ended t (place + 1) (length text) → found ≡ NotOne
       → Sought t text (Only (record { number = number; place = place; kind = getD t place 0; first = first }))
       (number + 1) (place + 1 + size) (first + rows)
   unfolding counting
@@ -116,7 +125,7 @@ module _ (t text : List ℕ) (found : Bearer) (number place first size rows : �
         rest = rw f at (matched i c b z);
       }
 
-  pub sought-second : (i : ℕ) (m : Module) → Compared t text (place + 1) i → length text ≤ i → Ended t (place + 1) i → found ≡ Only m
+  pub sought-second : (i : ℕ) (m : Module) → Compared t text (place + 1) i → i ≤ 0 → Ended t (place + 1) (length text) → found ≡ Only m
       → NotOne ≡ bearer t text
   unfolding counting exactlyOne
   sought-second i m c b z f = sym (rw f at (matched i c b z))

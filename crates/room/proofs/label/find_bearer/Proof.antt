@@ -13,7 +13,7 @@ abbrev Inv-loop : tie.InvT-loop
 Inv-loop table text found number place first kind here label i₀ i = Compared table text label i
 
 abbrev μ-loop : tie.MeasureT-loop
-μ-loop table text found number place first kind here label i₀ i = length text - i
+μ-loop table text found number place first kind here label i₀ i = i
 
 abbrev Inv-records : tie.InvT-records
 Inv-records table text found₀ number₀ place₀ first₀ found number place first = Sought table text found number place first
