@@ -4,6 +4,7 @@ pub mod Every
 pub mod Modules
 pub mod Reached
 pub mod Rules
+pub mod Run
 pub mod Walk
 use mathlib.Core.Bool.{Bool, true, false, cond, not, _&&_}
 use mathlib.Core.List.{List, [], _∷_}

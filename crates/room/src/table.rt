@@ -1,6 +1,5 @@
 // The module table.
 use catalogue::rows::row_count;
-use text::cut::find;
 ghost use mathlib.Core.Bool.{true};
 ghost use mathlib.Core.Path.{_≡_};
 ghost use Prim.Native.Nat.{_≤_};
@@ -8,6 +7,7 @@ ghost use lib.ListN.{length, drop};
 ghost use Rattle.catalogue.specs.Catalogue.{known};
 ghost use Rattle.catalogue.specs.Every.{every};
 ghost use Rattle.room.specs.Table.{bodyLength, bodySound, fieldSound, isZero, labelByte, labelRight, moduleAt, modules, sound, tableNumber};
+ghost use Rattle.room.specs.Table.Run.{run};
 
 // How many records a table may have.
 pub const MODULES: usize = 64;
@@ -91,12 +91,29 @@ fn zeros_from(field: &[u8], at: usize) -> bool
     true
 }
 
+// How many bytes at the beginning of a field may stand in a label.
+fn label_run(field: &[u8]) -> usize
+    ensures { λ r. ⌜ r ≡ run labelByte (now (field .entry)) ⌝ }
+{
+    let mut i = 0;
+    while i < field.len() {
+        if !label_byte(field[i]) {
+            return i;
+        }
+        i += 1;
+    }
+    i
+}
+
 // Whether a field holds a label and then zero bytes.
 fn field_sound(field: &[u8]) -> bool
     ensures { λ r. ⌜ r ≡ fieldSound (now (field .entry)) ⌝ }
 {
-    let end = find(field, 0);
-    if !label_right(&field[..end]) {
+    let end = label_run(field);
+    if end < 1 {
+        return false;
+    }
+    if 32 < end {
         return false;
     }
     zeros_from(field, end)

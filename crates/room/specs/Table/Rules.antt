@@ -6,9 +6,8 @@ use Prim.Native.Nat.{ℕ, suc, _+_, _≤_, _<_}
 use native.Mathlib.Omega.{arith}
 use borrow.Author.Tests.{eq-eqb, ne-eqb, le-leb, lt-leb, not-true, not-false}
 use lib.Dec.{eqb, leb}
-use lib.ListN.{length, getD, take, drop}
-use lib.Seq.{length-take-le}
-use Rattle.text.specs.Cut.{before, indexOf}
+use lib.ListN.{length, getD, drop}
+use Rattle.text.specs.Cut.{indexOf}
 use Rattle.catalogue.specs.Catalogue.{known}
 use Rattle.catalogue.specs.Every.{every}
 use Rattle.room.specs.Table.{bodyLength, bodySound, fieldSound, isZero, labelByte, labelRight}
@@ -78,7 +77,7 @@ pub zeros-not : (s : List ℕ) (from i : ℕ) → Passed isZero s from i → i <
 unfolding isZero
 zeros-not s from i p l e = passed-not isZero s from i p l (ne-eqb (getD s i 0) 0 e)
 
--- ---- a field, whose label ends at the first zero byte
+-- ---- the first zero byte
 
 pub index-within : (s : List ℕ) → indexOf 0 s ≤ length s
 unfolding indexOf
@@ -88,25 +87,6 @@ index-within (b ∷ s) = either (eqb b 0) (index-within s)
     either : (t : Bool) → indexOf 0 s ≤ length s → cond t 0 (suc (indexOf 0 s)) ≤ suc (length s)
     either true l = omega arith
     either false l = omega arith
-
-pub field-within : (f : List ℕ) (end : ℕ) → end ≡ indexOf 0 f → end ≤ length f
-field-within f end e = omega (arith, index-within f)
-
-pub field-part : (f : List ℕ) (end : ℕ) → end ≡ indexOf 0 f → end ≡ length (take end f)
-field-part f end e = sym (length-take-le end f (field-within f end e))
-
-pub field-not : (f : List ℕ) (end : ℕ) (t : Bool) → end ≡ indexOf 0 f → t ≡ labelRight (take end f) → not t ≡ true → false ≡ fieldSound f
-unfolding fieldSound before
-field-not f end t e h n =
-    let l : labelRight (take (indexOf 0 f) f) ≡ false = rw e at (sym h ∙ not-true t n) in
-    rw l
-
-pub field-rest : (f : List ℕ) (end : ℕ) (t r : Bool) → end ≡ indexOf 0 f → t ≡ labelRight (take end f) → not t ≡ false
-    → r ≡ every isZero (drop end f) → r ≡ fieldSound f
-unfolding fieldSound before
-field-rest f end t r e h n z =
-    let l : labelRight (take (indexOf 0 f) f) ≡ true = rw e at (sym h ∙ not-false t n) in
-    rw l (rw e at z)
 
 -- ---- a body
 
@@ -132,6 +112,6 @@ pub ruleset kinds = (kind-low, kind-high)
 
 pub ruleset labels = (byte-low, byte-high, byte-quote, passed-start, label-short, label-long, label-next, label-not, label-all)
 
-pub ruleset fields = (passed-start, zeros-next, zeros-not, passed-all, field-within, field-part, field-not, field-rest)
+pub ruleset zeros = (passed-start, zeros-next, zeros-not, passed-all)
 
 pub ruleset bodies = (body-unknown, body-sized-not, body-field)

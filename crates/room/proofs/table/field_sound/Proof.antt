@@ -1,6 +1,6 @@
--- `field_sound`: the label before the first zero byte, and then the field's rest.
+-- `field_sound`: the bytes that may stand in a label, and then the field's rest.
 use borrow.Author.Needs.{needs}
-use Rattle.room.specs.Table.Rules.{fields}
+use Rattle.room.specs.Table.Run.{fields}
 use Rattle.room.proofs.table.field_sound.Statement.{statement}
 use Rattle.room.proofs.table.field_sound.Tie as tie
 
@@ -10,7 +10,6 @@ field-sound-spec =
     (tie.spec
     (λ c κs. search (fields, needs))
     (λ c. search (fields, needs))
-    (λ c κs. search (fields, needs))
     (λ c. search (fields, needs))
     (λ c κs. search (fields, needs))
     (λ c. search (fields, needs)))

@@ -4,7 +4,7 @@ use borrow.Author.Needs.{needs}
 use borrow.Author.Needs.{needs}
 use lib.ListN.{length}
 use Rattle.room.specs.Table.Every.{Passed}
-use Rattle.room.specs.Table.Rules.{fields}
+use Rattle.room.specs.Table.Rules.{zeros}
 use Rattle.room.specs.Table.{isZero}
 use Rattle.room.proofs.table.zeros_from.Statement.{statement}
 use Rattle.room.proofs.table.zeros_from.Tie as tie
@@ -21,10 +21,10 @@ zeros-from-spec =
     (tie.spec
     Inv-loop
     μ-loop
-    (λ c. search (fields, needs))
-    (λ c. search (fields, needs))
-    (λ c. search (fields, needs))
-    (λ c. search (fields, needs))
-    (λ c. search (fields, needs))
-    (λ c. search (fields, needs))
-    (λ c. search (fields, needs)))
+    (λ c. search (zeros, needs))
+    (λ c. search (zeros, needs))
+    (λ c. search (zeros, needs))
+    (λ c. search (zeros, needs))
+    (λ c. search (zeros, needs))
+    (λ c. search (zeros, needs))
+    (λ c. search (zeros, needs)))
