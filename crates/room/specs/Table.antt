@@ -6,6 +6,7 @@ pub mod Reached
 pub mod Rules
 pub mod Run
 pub mod Walk
+pub mod Zeros
 use mathlib.Core.Bool.{Bool, true, false, cond, not, _&&_}
 use mathlib.Core.List.{List, [], _∷_}
 use Prim.Native.Nat.{ℕ, zero, suc, _+_}

@@ -8,6 +8,7 @@ ghost use Rattle.catalogue.specs.Catalogue.{known};
 ghost use Rattle.catalogue.specs.Every.{every};
 ghost use Rattle.room.specs.Table.{bodyLength, bodySound, fieldSound, isZero, labelByte, labelRight, moduleAt, modules, sound, tableNumber};
 ghost use Rattle.room.specs.Table.Run.{run};
+ghost use Rattle.room.specs.Table.Zeros.{Used};
 
 // How many records a table may have.
 pub const MODULES: usize = 64;
@@ -76,19 +77,26 @@ pub fn label_right(text: &[u8]) -> bool
     true
 }
 
+// How long a field is without the zero bytes at its end.
+fn used(field: &[u8]) -> usize
+    ensures { λ r. ⌜ Used (now (field .entry)) r ⌝ }
+{
+    let mut i = field.len();
+    while 0 < i {
+        if field[i - 1] != 0 {
+            return i;
+        }
+        i -= 1;
+    }
+    i
+}
+
 // Whether all bytes from a place on are zero.
 fn zeros_from(field: &[u8], at: usize) -> bool
     requires { ⌜ at ≤ length (now field) ⌝ }
     ensures { λ r. ⌜ r ≡ every isZero (drop at (now (field .entry))) ⌝ }
 {
-    let mut i = at;
-    while i < field.len() {
-        if field[i] != 0 {
-            return false;
-        }
-        i += 1;
-    }
-    true
+    used(field) <= at
 }
 
 // How many bytes at the beginning of a field may stand in a label.

@@ -6,11 +6,11 @@ use Prim.Native.Nat.{ℕ, suc, _+_, _≤_, _<_}
 use native.Mathlib.Omega.{arith}
 use borrow.Author.Tests.{eq-eqb, ne-eqb, le-leb, lt-leb, not-true, not-false}
 use lib.Dec.{eqb, leb}
-use lib.ListN.{length, getD, drop}
+use lib.ListN.{length, getD}
 use Rattle.text.specs.Cut.{indexOf}
 use Rattle.catalogue.specs.Catalogue.{known}
 use Rattle.catalogue.specs.Every.{every}
-use Rattle.room.specs.Table.{bodyLength, bodySound, fieldSound, isZero, labelByte, labelRight}
+use Rattle.room.specs.Table.{bodyLength, bodySound, fieldSound, labelByte, labelRight}
 use Rattle.room.specs.Table.Every.{Passed, passed-start, passed-next, passed-not, passed-all}
 
 -- ---- a kind
@@ -67,16 +67,6 @@ pub label-all : (s : List ℕ) (i : ℕ) → 1 ≤ length s → length s ≤ 32 
 unfolding labelRight
 label-all s i a b p l = rw (le-leb 1 (length s) a, le-leb (length s) 32 b) (passed-all labelByte s 0 i p l)
 
--- ---- zero bytes
-
-pub zeros-next : (s : List ℕ) (from i : ℕ) → Passed isZero s from i → i < length s → getD s i 0 ≡ 0 → Passed isZero s from (i + 1)
-unfolding isZero
-zeros-next s from i p l e = passed-next isZero s from i p l (eq-eqb (getD s i 0) 0 e)
-
-pub zeros-not : (s : List ℕ) (from i : ℕ) → Passed isZero s from i → i < length s → (getD s i 0 ≡ 0 → ⊥) → false ≡ every isZero (drop from s)
-unfolding isZero
-zeros-not s from i p l e = passed-not isZero s from i p l (ne-eqb (getD s i 0) 0 e)
-
 -- ---- the first zero byte
 
 pub index-within : (s : List ℕ) → indexOf 0 s ≤ length s
@@ -111,7 +101,5 @@ body-field kind size s t r e n b h f =
 pub ruleset kinds = (kind-low, kind-high)
 
 pub ruleset labels = (byte-low, byte-high, byte-quote, passed-start, label-short, label-long, label-next, label-not, label-all)
-
-pub ruleset zeros = (passed-start, zeros-next, zeros-not, passed-all)
 
 pub ruleset bodies = (body-unknown, body-sized-not, body-field)
