@@ -5,8 +5,8 @@ pub mod Modules
 pub mod Reached
 pub mod Rules
 pub mod Run
+pub mod Tally
 pub mod Walk
-pub mod Zeros
 use mathlib.Core.Bool.{Bool, true, false, cond, not, _&&_}
 use mathlib.Core.List.{List, [], _∷_}
 use Prim.Native.Nat.{ℕ, zero, suc, _+_}

@@ -2,13 +2,10 @@
 use catalogue::rows::row_count;
 ghost use mathlib.Core.Bool.{true};
 ghost use mathlib.Core.Path.{_≡_};
-ghost use Prim.Native.Nat.{_≤_};
-ghost use lib.ListN.{length, drop};
 ghost use Rattle.catalogue.specs.Catalogue.{known};
-ghost use Rattle.catalogue.specs.Every.{every};
 ghost use Rattle.room.specs.Table.{bodyLength, bodySound, fieldSound, isZero, labelByte, labelRight, moduleAt, modules, sound, tableNumber};
 ghost use Rattle.room.specs.Table.Run.{run};
-ghost use Rattle.room.specs.Table.Zeros.{Used};
+ghost use Rattle.room.specs.Table.Tally.{tally};
 
 // How many records a table may have.
 pub const MODULES: usize = 64;
@@ -77,26 +74,21 @@ pub fn label_right(text: &[u8]) -> bool
     true
 }
 
-// How long a field is without the zero bytes at its end.
-fn used(field: &[u8]) -> usize
-    ensures { λ r. ⌜ Used (now (field .entry)) r ⌝ }
+// How many bytes of a field are zero.
+fn zero_count(field: &[u8]) -> usize
+    ensures { λ r. ⌜ r ≡ tally isZero (now (field .entry)) ⌝ }
 {
-    let mut i = field.len();
-    while 0 < i {
-        if field[i - 1] != 0 {
-            return i;
+    let mut count = 0;
+    let mut i = 0;
+    while i < field.len() {
+        let b = field[i];
+        i += 1;
+        if b != 0 {
+            continue;
         }
-        i -= 1;
+        count += 1;
     }
-    i
-}
-
-// Whether all bytes from a place on are zero.
-fn zeros_from(field: &[u8], at: usize) -> bool
-    requires { ⌜ at ≤ length (now field) ⌝ }
-    ensures { λ r. ⌜ r ≡ every isZero (drop at (now (field .entry))) ⌝ }
-{
-    used(field) <= at
+    count
 }
 
 // How many bytes at the beginning of a field may stand in a label.
@@ -124,7 +116,7 @@ fn field_sound(field: &[u8]) -> bool
     if 32 < end {
         return false;
     }
-    zeros_from(field, end)
+    zero_count(field) == field.len() - end
 }
 
 // Whether a body is sound for its kind.

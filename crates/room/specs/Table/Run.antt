@@ -2,18 +2,19 @@
 use mathlib.Core.Path.{_≡_, refl, ap, sym, _∙_}
 use mathlib.Core.Bool.{Bool, true, false, cond, not, _&&_}
 use mathlib.Core.List.{List, [], _∷_}
-use Prim.Native.Nat.{ℕ, suc, _+_, _≤_, _<_}
+use Prim.Native.Nat.{ℕ, suc, _+_, _-_, _≤_, _<_}
 use native.Mathlib.Numerals.{add-one}
 use native.Mathlib.Omega.{arith}
 use borrow.Author.Tests.{eq-eqb, eqb-true, le-leb, ne-eqb, not-true, not-false}
 use lib.Dec.{eqb}
-use lib.ListN.{length, getD, take, drop, drop-of-length-le}
+use lib.ListN.{length, getD, take, drop, drop-of-length-le, length-drop}
 use lib.Seq.{drop-cons, length-take-le}
 use Rattle.text.specs.Cut.{before, indexOf}
 use Rattle.catalogue.specs.Every.{both-left, both-right, every, never}
 use Rattle.room.specs.Label.Bytes.{Right, label-byte, label-right}
 use Rattle.room.specs.Table.{fieldSound, isZero, labelByte, labelRight}
 use Rattle.room.specs.Table.Rules.{index-within}
+use Rattle.room.specs.Table.Tally.{tally, tally-every}
 
 -- how many bytes at the beginning meet a test
 unfoldable pub run : (ℕ → Bool) → List ℕ → ℕ
@@ -82,6 +83,17 @@ run-zeros (b ∷ s) h = go (labelByte b) refl (run-zeros s) h
     go true e next h = let p = label-byte b e in rw (ne-eqb b 0 (λ q. omega arith)) (ap suc (next h))
     go false e next h = rw (both-left (eqb b 0) (every isZero s) h) refl
 
+-- no zero byte is passed
+run-tally : (f : List ℕ) → tally isZero f ≡ tally isZero (drop (run labelByte f) f)
+unfolding run tally isZero
+run-tally [] = refl
+run-tally (b ∷ s) = go (labelByte b) refl (run-tally s)
+  where
+    go : (t : Bool) → labelByte b ≡ t → tally isZero s ≡ tally isZero (drop (run labelByte s) s)
+        → tally isZero (b ∷ s) ≡ tally isZero (drop (cond t (suc (run labelByte s)) 0) (b ∷ s))
+    go true e next = let p = label-byte b e in rw (ne-eqb b 0 (λ q. omega arith)) next
+    go false e next = refl
+
 -- where the bytes before the first zero byte are a label's
 run-label : (f : List ℕ) → every labelByte (take (indexOf 0 f) f) ≡ true → indexOf 0 f ≡ run labelByte f
 unfolding run every indexOf labelByte
@@ -127,7 +139,7 @@ module _ (f : List ℕ) (end : ℕ) (e : end ≡ run labelByte f) where
       by-not (fieldSound f)
       (λ q. let h = held f q in omega (arith, ends h, h .label .most, length-take-le (indexOf 0 f) f (index-within f)))
 
-  pub field-rest : (r : Bool) → 1 ≤ end → end ≤ 32 → r ≡ every isZero (drop end f) → r ≡ fieldSound f
+  field-rest : (r : Bool) → 1 ≤ end → end ≤ 32 → r ≡ every isZero (drop end f) → r ≡ fieldSound f
   unfolding fieldSound before labelRight
   field-rest true a b z =
       let i : indexOf 0 f ≡ end = run-zeros f (rw e at (sym z)) ∙ sym e in
@@ -138,4 +150,11 @@ module _ (f : List ℕ) (end : ℕ) (e : end ≡ run labelByte f) where
       by-not (fieldSound f)
       (λ q. let h = held f q in let c : false ≡ true = z ∙ rw (sym (ends h)) at (h .zeros) in let k : _≡_ {A = ℕ} 0 1 = cc in omega arith)
 
-pub ruleset fields = (field-within, field-empty, field-long, field-rest)
+  -- the bytes before its end are not zero, so those behind it are all zero where as many are
+  pub field-counted : (zeros : ℕ) → 1 ≤ end → end ≤ 32 → zeros ≡ tally isZero f → eqb zeros (length f - end) ≡ fieldSound f
+  field-counted zeros a b z =
+      let n : length (drop end f) ≡ length f - end = length-drop end f in
+      let t : zeros ≡ tally isZero (drop end f) = z ∙ rw e (run-tally f) in
+      field-rest (eqb zeros (length f - end)) a b (rw (t, ← n) (sym (tally-every (drop end f))))
+
+pub ruleset fields = (field-within, field-empty, field-long, field-counted)

@@ -1,4 +1,4 @@
--- `field_sound`: the bytes that may stand in a label, and then the field's rest.
+-- `field_sound`: the bytes that may stand in a label, and as many zero bytes as are left.
 use borrow.Author.Needs.{needs}
 use Rattle.room.specs.Table.Run.{fields}
 use Rattle.room.proofs.table.field_sound.Statement.{statement}
@@ -12,4 +12,5 @@ field-sound-spec =
     (λ c. search (fields, needs))
     (λ c. search (fields, needs))
     (λ c κs. search (fields, needs))
+    (λ c. search (fields, needs))
     (λ c. search (fields, needs)))
