@@ -45,10 +45,10 @@ pub fn body_length(kind: u8) -> usize
 fn label_byte(b: u8) -> bool
     ensures { λ r. ⌜ r ≡ labelByte b ⌝ }
 {
-    if b < 0x20 {
-        return false;
+    if 0x22 < b {
+        return b <= 0x7E;
     }
-    if 0x7E < b {
+    if b < 0x20 {
         return false;
     }
     b != 0x22
@@ -115,6 +115,9 @@ fn field_sound(field: &[u8]) -> bool
     }
     if 32 < end {
         return false;
+    }
+    if end == field.len() {
+        return true;
     }
     zero_count(field) == field.len() - end
 }

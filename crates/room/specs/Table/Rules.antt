@@ -29,13 +29,19 @@ pub byte-low : (b : ℕ) → b < 32 → false ≡ labelByte b
 unfolding labelByte
 byte-low b l = rw (lt-leb 32 b l)
 
-pub byte-high : (b : ℕ) → 126 < b → false ≡ labelByte b
+pub byte-high : (b : ℕ) → 34 < b → leb b 126 ≡ labelByte b
 unfolding labelByte
-byte-high b l = let h : leb 32 b ≡ true = le-leb 32 b (omega arith) in rw (h, lt-leb b 126 l)
+byte-high b l =
+    let n : not (eqb b 34) ≡ true = rw (ne-eqb b 34 (λ e. omega arith)) refl in
+    rw (le-leb 32 b (omega arith), n) (and-true (leb b 126))
+  where
+    and-true : (t : Bool) → t ≡ (t && true)
+    and-true true = refl
+    and-true false = refl
 
-pub byte-quote : (b : ℕ) → 32 ≤ b → b ≤ 126 → not (eqb b 34) ≡ labelByte b
+pub byte-quote : (b : ℕ) → 32 ≤ b → b ≤ 34 → not (eqb b 34) ≡ labelByte b
 unfolding labelByte
-byte-quote b l h = rw (le-leb 32 b l, le-leb b 126 h)
+byte-quote b l h = rw (le-leb 32 b l, le-leb b 126 (omega arith))
 
 -- ---- a label
 

@@ -150,6 +150,10 @@ module _ (f : List ℕ) (end : ℕ) (e : end ≡ run labelByte f) where
       by-not (fieldSound f)
       (λ q. let h = held f q in let c : false ≡ true = z ∙ rw (sym (ends h)) at (h .zeros) in let k : _≡_ {A = ℕ} 0 1 = cc in omega arith)
 
+  pub field-full : 1 ≤ end → end ≤ 32 → end ≡ length f → true ≡ fieldSound f
+  unfolding every
+  field-full a b h = let l : length f ≤ end = omega arith in field-rest true a b (rw (drop-of-length-le f l) refl)
+
   -- the bytes before its end are not zero, so those behind it are all zero where as many are
   pub field-counted : (zeros : ℕ) → 1 ≤ end → end ≤ 32 → zeros ≡ tally isZero f → eqb zeros (length f - end) ≡ fieldSound f
   field-counted zeros a b z =
@@ -157,4 +161,4 @@ module _ (f : List ℕ) (end : ℕ) (e : end ≡ run labelByte f) where
       let t : zeros ≡ tally isZero (drop end f) = z ∙ rw e (run-tally f) in
       field-rest (eqb zeros (length f - end)) a b (rw (t, ← n) (sym (tally-every (drop end f))))
 
-pub ruleset fields = (field-within, field-empty, field-long, field-counted)
+pub ruleset fields = (field-within, field-empty, field-long, field-full, field-counted)

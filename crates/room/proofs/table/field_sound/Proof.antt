@@ -11,6 +11,7 @@ field-sound-spec =
     (λ c κs. search (fields, needs))
     (λ c. search (fields, needs))
     (λ c. search (fields, needs))
+    (λ c. search (fields, needs))
     (λ c κs. search (fields, needs))
     (λ c. search (fields, needs))
     (λ c. search (fields, needs)))

@@ -1,4 +1,4 @@
--- `label_byte`: too low, too high, and then whether it is a quote.
+-- `label_byte`: above the quote, too low, and then whether it is the quote.
 use borrow.Author.Needs.{needs}
 use Rattle.room.specs.Table.Rules.{labels}
 use Rattle.room.proofs.table.label_byte.Statement.{statement}
