@@ -1,5 +1,3 @@
--- What the calls for C tell, and what they leave in each lent buffer.
-pub mod Told
-pub mod Port
+-- What the calls for C tell.
 pub mod Log
 pub mod Restore

@@ -1,16 +1,16 @@
 -- The log call for C: three numbers are lent for the part that shows the label.
-use mathlib.Core.Path.{_≡_, refl, sym, _∙_, ap}
+use mathlib.Core.Path.{_≡_, refl}
 use mathlib.Core.Bool.{cond}
 use mathlib.Core.List.{List, [], _∷_}
 use Prim.Native.Nat.{ℕ, _-_}
 use borrow.Author.Tests.{eq-eqb, ne-eqb}
 use lib.Dec.{eqb}
 use lib.ListN.{length}
-use Rattle.line.specs.Log.{logPart}
-use Rattle.line.specs.Log.Lending.{table-order, line-order}
-use Rattle.line.specs.declared.log.LogPart.{LogPart}
-use Rattle.line.specs.declared.log.LogPart.the-variants.{Table, Line, Nothing}
-use Rattle.capi.specs.Told.{misLent}
+use Rattle.log.specs.Log.{logPart}
+use Rattle.log.specs.Log.Lending.{table-order, line-order}
+use Rattle.log.specs.declared.LogPart.{LogPart}
+use Rattle.log.specs.declared.LogPart.the-variants.{Table, Line, Nothing}
+use Rattle.lent.specs.Told.{misLent}
 
 -- 1 for the table or 0 for the line, the start of the part, and its length
 unfoldable pub partTold : LogPart → List ℕ

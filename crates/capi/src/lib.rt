@@ -1,20 +1,18 @@
 // The library's calls for C: each is thin over the proved library, and none asks anything of its caller.
-mod lent;
-
-use crate::lent::port_lent;
-use crate::lent::port_of;
-use crate::lent::store;
-use crate::lent::tell_three;
-use crate::lent::tell_two;
-use line::log::LogPart;
-use line::log::log_part;
-use restore::restore::restore;
+use lent::port_lent;
+use lent::port_of;
+use lent::store;
+use lent::tell_three;
+use lent::tell_two;
+use log::LogPart;
+use log::log_part;
+use restore::restore;
 use room::table::check;
 ghost use mathlib.Core.Bool.{true};
 ghost use mathlib.Core.Path.{_≡_};
 ghost use Rattle.room.specs.Table.{tableNumber};
 ghost use Rattle.capi.specs.Log.{logAnswer, logTells};
-ghost use Rattle.capi.specs.Port.{PortCalled, portLent};
+ghost use Rattle.lent.specs.Port.{PortCalled, portLent};
 ghost use Rattle.capi.specs.Restore.{restoreAnswer, restoreTells};
 
 // Whether a table is sound: 0, or the refusal's number, 1.

@@ -14,11 +14,11 @@ use mathlib.Core.List.{List, [], _∷_, map}
 use Prim.Native.Nat.{ℕ, suc}
 use lib.Dec.{eqb, leb, ltb}
 use lib.IntN.{ℤ, pos, negsuc, negℤ}
-use Rattle.catalogue.specs.declared.rows.Indices.{Indices}
-use Rattle.catalogue.specs.declared.rows.Indices.the-variants.{OneGroup, TwoGroups}
-use Rattle.catalogue.specs.declared.rows.Kind.{Kind}
-use Rattle.catalogue.specs.declared.rows.Kind.the-variants.{Level, Switch, Number}
-use Rattle.catalogue.specs.declared.rows.Row.{Row}
+use Rattle.row.specs.declared.Indices.{Indices}
+use Rattle.row.specs.declared.Indices.the-variants.{OneGroup, TwoGroups}
+use Rattle.row.specs.declared.Kind.{Kind}
+use Rattle.row.specs.declared.Kind.the-variants.{Level, Switch, Number}
+use Rattle.row.specs.declared.Row.{Row}
 
 -- a row, and the module type that has it
 pub record Entry : Type 0 where

@@ -1,4 +1,2 @@
--- The catalogue of parameters, and which values a row permits.
+-- The catalogue: fifty rows, and the rules that hold of each.
 pub mod Catalogue
-pub mod Every
-pub mod Row

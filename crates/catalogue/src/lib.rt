@@ -1,4 +1,3 @@
-// The catalogue: the parameters that the module types have, and which values they permit.
-pub mod indices;
+// The catalogue: the parameters that the module types have.
 pub mod permit;
 pub mod rows;

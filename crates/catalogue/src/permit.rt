@@ -1,30 +1,12 @@
-// Which values a row permits.
+// Which values a row of the table permits.
+use crate::rows::natural_at;
+use crate::rows::number_at;
 ghost use mathlib.Core.Path.{_≡_};
 ghost use Prim.Native.Nat.{_<_};
 ghost use lib.ListN.{length};
 ghost use Rattle.catalogue.specs.Catalogue.{catalogue, numbers};
 ghost use Rattle.catalogue.specs.Catalogue.Rules.{entryAt};
-ghost use Rattle.catalogue.specs.Row.{permitted, start};
-ghost use Rattle.catalogue.specs.Row.Laws.{RowFits};
-use crate::rows::Row;
-use crate::rows::natural_at;
-use crate::rows::number_at;
-
-// Whether the row permits the value v.
-pub fn permits(row: Row, v: i64) -> bool
-    requires { ⌜ RowFits row ⌝ }
-    ensures { λ r. ⌜ r ≡ permitted row v ⌝ }
-{
-    let low = row.low;
-    if v < low {
-        return false;
-    }
-    if row.high < v {
-        return false;
-    }
-    let distance = (v - low) as u64;
-    distance % row.step == 0
-}
+ghost use Rattle.row.specs.Row.{permitted};
 
 // Whether row n of the table permits the value v: the same, over the row's own numbers, which are narrow.
 pub fn row_permits(rows: &[[i32; 8]; 50], n: usize, v: i64) -> bool
@@ -45,15 +27,4 @@ pub fn row_permits(rows: &[[i32; 8]; 50], n: usize, v: i64) -> bool
     }
     let above = (v - least) as u32;
     above % step == 0
-}
-
-// The value that a program starts the row with.
-pub fn start_of(row: Row) -> i64
-    requires { ⌜ RowFits row ⌝ }
-    ensures { λ r. ⌜ r ≡ start row ⌝ }
-{
-    if permits(row, 0) {
-        return 0;
-    }
-    row.low
 }

@@ -1,5 +1,7 @@
 // The catalogue: one constant table, and rows taken from it.
-
+use row::Indices;
+use row::Kind;
+use row::Row;
 ghost use mathlib.Core.Bool.{true};
 ghost use mathlib.Core.Path.{_≡_};
 ghost use Prim.Native.Nat.{_<_};
@@ -10,27 +12,6 @@ ghost use lib.Signed.{nonNeg};
 ghost use Rattle.catalogue.specs.Catalogue.{catalogue, firstRow, known, numbers, rowsOf};
 ghost use Rattle.catalogue.specs.Catalogue.Numbers.{columnAt, indicesFrom, kindFrom};
 ghost use Rattle.catalogue.specs.Catalogue.Rules.{entryAt, rowOf};
-
-// The index groups of a row: a missing second group is not a second index 0.
-pub enum Indices {
-    OneGroup(u64),
-    TwoGroups(u64, u64),
-}
-
-pub enum Kind {
-    Level,
-    Switch,
-    Number,
-}
-
-pub struct Row {
-    pub indices: Indices,
-    pub kind: Kind,
-    pub low: i64,
-    pub high: i64,
-    pub step: u64,
-    pub settable: bool,
-}
 
 // A row: type, index 1, index 2 or -1 where there is one group, kind (0 level, 1 switch, 2 number), low, high, step, settable.
 const ROWS: [[i32; 8]; 50] = [

@@ -1,7 +1,7 @@
 -- The index part: one or two groups, each `>` and one to three decimal digits.
 pub mod Laws
 pub mod Reading
-use mathlib.Core.Bool.{Bool, cond}
+use mathlib.Core.Bool.{cond}
 use mathlib.Core.List.{List, [], _∷_}
 use Prim.Native.Nat.{ℕ}
 use lib.Dec.{eqb}
@@ -9,7 +9,7 @@ use Rattle.text.specs.Cut.{has, before, after}
 use Rattle.text.specs.Number.{readNumber}
 use Rattle.text.specs.declared.number.Number.{Number}
 use Rattle.text.specs.declared.number.Number.the-variants as read
-use Rattle.catalogue.specs.declared.rows.Indices.the-variants.{OneGroup, TwoGroups}
+use Rattle.row.specs.declared.Indices.the-variants.{OneGroup, TwoGroups}
 use Rattle.line.specs.declared.index.IndexPart.{IndexPart}
 use Rattle.line.specs.declared.index.IndexPart.the-variants.{Right, Wrong}
 

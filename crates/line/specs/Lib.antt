@@ -1,10 +1,4 @@
--- What one line means, and what it is answered with.
+-- The parts of a line: its shape, its index part, its value text.
 pub mod Shape
 pub mod IndexPart
 pub mod Value
-pub mod Meaning
-pub mod Told
-pub mod Answer
-pub mod Said
-pub mod Log
-pub mod Worked

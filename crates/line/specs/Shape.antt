@@ -8,7 +8,7 @@ use Prim.Native.Nat.{ℕ, _+_, _-_}
 use lib.Dec.{eqb, ltb}
 use lib.ListN.{length, getD, take, drop}
 use Rattle.text.specs.Cut.{indexOf}
-use Rattle.room.specs.Label.{same}
+use Rattle.label.specs.Label.{same}
 use Rattle.line.specs.declared.shape.Shape.{Shape}
 use Rattle.line.specs.declared.shape.Shape.the-variants.{Malformed, Get, Set}
 

@@ -2,23 +2,23 @@
 pub mod Laws
 pub mod Reading
 pub mod Texts
-use mathlib.Core.Bool.{Bool, cond, _&&_}
+use mathlib.Core.Bool.{cond}
 use mathlib.Core.List.{List}
 use lib.IntN.{ℤ, pos, _-ℤ_}
-use Rattle.text.specs.Level.{readLevel}
+use Rattle.level.specs.Level.{readLevel}
 use Rattle.text.specs.Number.{readNumber}
 use Rattle.text.specs.Switch.{readSwitch}
 use Prim.Native.Nat.{ℕ}
-use Rattle.text.specs.declared.level.Level.{Level}
-use Rattle.text.specs.declared.level.Level.the-variants as level
+use Rattle.level.specs.declared.Level.{Level}
+use Rattle.level.specs.declared.Level.the-variants as level
 use Rattle.text.specs.declared.number.Number.{Number}
 use Rattle.text.specs.declared.number.Number.the-variants as number
 use Rattle.text.specs.declared.switch.Switch.{Switch}
 use Rattle.text.specs.declared.switch.Switch.the-variants as switch
-use Rattle.catalogue.specs.Row.{permitted}
-use Rattle.catalogue.specs.declared.rows.Row.{Row}
-use Rattle.catalogue.specs.declared.rows.Kind.{Kind}
-use Rattle.catalogue.specs.declared.rows.Kind.the-variants as kind
+use Rattle.row.specs.Row.{permitted}
+use Rattle.row.specs.declared.Row.{Row}
+use Rattle.row.specs.declared.Kind.{Kind}
+use Rattle.row.specs.declared.Kind.the-variants as kind
 use Rattle.line.specs.declared.value.ValueText.{ValueText}
 use Rattle.line.specs.declared.value.ValueText.the-variants.{Value, Wrong}
 

@@ -1,5 +1,5 @@
 // The index part of a line.
-use catalogue::rows::Indices;
+use row::Indices;
 use text::cut::find;
 use text::number::Number;
 use text::number::read_number;

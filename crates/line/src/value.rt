@@ -1,9 +1,9 @@
 // The value text of a set line.
-use catalogue::permit::permits;
-use catalogue::rows::Kind;
-use catalogue::rows::Row;
-use text::level::Level;
-use text::level::read_level;
+use level::Level;
+use level::read_level;
+use row::Kind;
+use row::Row;
+use row::permit::permits;
 use text::number::Number;
 use text::number::read_number;
 use text::switch::Switch;
@@ -12,11 +12,11 @@ ghost use mathlib.Core.Bool.{true};
 ghost use mathlib.Core.Path.{_≡_};
 ghost use Prim.Native.Nat.{_<_, _^_};
 ghost use lib.Signed.{mag};
-ghost use Rattle.text.specs.Level.{readLevel};
+ghost use Rattle.level.specs.Level.{readLevel};
 ghost use Rattle.text.specs.Number.{readNumber};
 ghost use Rattle.text.specs.Switch.{readSwitch};
-ghost use Rattle.catalogue.specs.Row.{permitted};
-ghost use Rattle.catalogue.specs.Row.Laws.{RowFits};
+ghost use Rattle.row.specs.Row.{permitted};
+ghost use Rattle.row.specs.Row.Laws.{RowFits};
 ghost use Rattle.line.specs.Value.{ofLevel, ofNumber, ofSwitch, readKind, readValue};
 
 pub enum ValueText {

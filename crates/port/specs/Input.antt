@@ -10,12 +10,12 @@ use lib.Seq.{length-take-le}
 use mir.Syntax.{w64}
 use mir.Val.{Fits}
 use Rattle.room.specs.Table.{sound}
-use Rattle.room.specs.Values.{valuesSound}
+use Rattle.values.specs.Values.{valuesSound}
 use Rattle.line.specs.Shape.{lineLimit}
-use Rattle.serial_port.specs.Stream.{Serves}
-use Rattle.serial_port.specs.Stream.Laws.{serves-right, serves-size, serves-some, serves-long}
+use Rattle.stream.specs.Stream.{Serves}
+use Rattle.stream.specs.Stream.Laws.{serves-right, serves-size, serves-some, serves-long}
 use Rattle.serial_port.specs.declared.port.Port.{Port}
-use Rattle.serial_port.specs.declared.stream.Served.{Served}
+use Rattle.stream.specs.declared.Served.{Served}
 
 -- what answering leaves: right values, and a port that claims at most 64 bytes
 pub record Kept (t : List ℕ) (vs : List ℤ) (q : Port) : Type 0 where

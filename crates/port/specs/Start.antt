@@ -1,7 +1,7 @@
 -- Rules for the code that starts the program: a table that was tested, and the start values over it.
 use mathlib.Core.Path.{_≡_, sym, _∙_, ap}
 use mathlib.Core.Bool.{Bool, true, false, not}
-use mathlib.Core.List.{List, _++_}
+use mathlib.Core.List.{List}
 use Prim.Native.Nat.{ℕ, _≤_}
 use native.Mathlib.Omega.{arith}
 use borrow.Author.Tests.{not-false}
@@ -9,8 +9,8 @@ use lib.IntN.{ℤ}
 use lib.ListN.{length, take, drop, length-append}
 use lib.Seq.{length-take-le, take-at}
 use Rattle.room.specs.Table.{sound}
-use Rattle.room.specs.Values.{Started, starts, valuesSound}
-use Rattle.room.specs.Values.Right.{starts-few, starts-right}
+use Rattle.values.specs.Values.{Started, starts, valuesSound}
+use Rattle.values.specs.Values.Right.{starts-few, starts-right}
 
 -- a test that was passed
 pub test-held : (b s : Bool) → b ≡ s → not b ≡ false → s ≡ true

@@ -2,16 +2,16 @@
 use catalogue::rows::all_rows;
 use libc::STDIN_FILENO;
 use libc::STDOUT_FILENO;
-use room::values::fill_starts;
 use serial_port::port::Port;
-use serial_port::stream::serve_all;
+use stream::serve_all;
+use values::fill_starts;
 ghost use mathlib.Core.Bool.{true};
 ghost use mathlib.Core.Path.{_≡_};
 ghost use Prim.Native.Nat.{_≤_};
 ghost use lib.ListN.{length};
 ghost use Rattle.catalogue.specs.Catalogue.{numbers};
 ghost use Rattle.room.specs.Table.{sound};
-ghost use Rattle.room.specs.Values.{valuesSound};
+ghost use Rattle.values.specs.Values.{valuesSound};
 ghost use Rattle.port.specs.Input.{Kept};
 
 // The port after some bytes, and whether their replies could be written.

@@ -1,8 +1,3 @@
--- The restore list, and demand 3: it is the shortest byte sequence that fulfils the wish.
-pub mod Target
-pub mod Lines
-pub mod Listing
-pub mod Measuring
-pub mod Writing
-pub mod Demand
-pub mod Worked
+-- The restore call: its tests, and what it answers.
+pub mod Calling
+pub mod Testing

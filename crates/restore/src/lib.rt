@@ -1,6 +1,107 @@
-// The restore list: the shortest lines that bring the chosen modules to their wanted values.
-pub mod measure;
-pub mod restore;
-pub mod restored;
-pub mod wish;
-pub mod write;
+// The restore call.
+use catalogue::rows::all_rows;
+use demand::Restored;
+use list::write;
+use measure::Measured;
+use measure::measure;
+use room::table::is_sound;
+use values::are_sound;
+use wish::selection_right;
+use wish::wanted_right;
+ghost use Rattle.catalogue.specs.Catalogue.{numbers};
+ghost use mathlib.Core.Bool.{true};
+ghost use mathlib.Core.Path.{_≡_};
+ghost use Rattle.room.specs.Table.{sound};
+ghost use Rattle.demand.specs.Demand.{Admitted, Restores};
+ghost use Rattle.restore.specs.Testing.{testNumber, wishNumber};
+
+// What a refused call answers.
+fn refused(number: u8) -> Restored
+    ensures { λ r. ⌜ r ≡ record { bytes = 0; lines = 0; number = number } ⌝ }
+{
+    Restored {
+        bytes: 0,
+        lines: 0,
+        number,
+    }
+}
+
+// The list of a wish that is right, measured before a byte of it is written.
+fn list_changes(
+    table: &[u8],
+    rows: &[[i32; 8]; 50],
+    present: &[i64],
+    selection: &[u8],
+    wanted: &[i64],
+    list: &mut [u8],
+) -> Restored
+    requires { ⌜ (now rows ≡ numbers) × Admitted (record { table = now table; present = now present; selection = now selection; wanted = now wanted }) ⌝ }
+    ensures { λ r. ⌜ Restores (record { table = now (table .entry); present = now (present .entry); selection = now (selection .entry); wanted = now (wanted .entry) }) (now (list .entry)) r (now (list .exit)) ⌝ }
+{
+    match measure(table, rows, present, selection, wanted) {
+        Measured::Beyond => refused(7),
+        Measured::Within(bytes, lines) => {
+            if list.len() < bytes {
+                return refused(8);
+            }
+            write(table, rows, present, selection, wanted, list);
+            Restored {
+                bytes,
+                lines,
+                number: 0,
+            }
+        }
+    }
+}
+
+// The tests of the wish: 5 or 6 where one fails, or 0.
+fn failed_wish(table: &[u8], rows: &[[i32; 8]; 50], selection: &[u8], wanted: &[i64]) -> u8
+    requires { ⌜ (sound (now table) ≡ true) × (now rows ≡ numbers) ⌝ }
+    ensures { λ r. ⌜ r ≡ wishNumber (now (table .entry)) (now (selection .entry)) (now (wanted .entry)) ⌝ }
+{
+    if !selection_right(table, selection) {
+        return 5;
+    }
+    if !wanted_right(table, rows, selection, wanted) {
+        return 6;
+    }
+    0
+}
+
+// The tests that come before the list: the number of the first that fails, or 0.
+fn failed_test(
+    table: &[u8],
+    rows: &[[i32; 8]; 50],
+    present: &[i64],
+    selection: &[u8],
+    wanted: &[i64],
+) -> u8
+    requires { ⌜ now rows ≡ numbers ⌝ }
+    ensures { λ r. ⌜ r ≡ testNumber (record { table = now (table .entry); present = now (present .entry); selection = now (selection .entry); wanted = now (wanted .entry) }) ⌝ }
+{
+    if !is_sound(table) {
+        return 1;
+    }
+    if !are_sound(table, rows, present) {
+        return 2;
+    }
+    failed_wish(table, rows, selection, wanted)
+}
+
+// Writes the shortest list that brings the chosen modules to their wanted values, or refuses and writes nothing.
+pub fn restore(
+    table: &[u8],
+    present: &[i64],
+    selection: &[u8],
+    wanted: &[i64],
+    list: &mut [u8],
+) -> Restored
+    ensures { λ r. ⌜ Restores (record { table = now (table .entry); present = now (present .entry); selection = now (selection .entry); wanted = now (wanted .entry) }) (now (list .entry)) r (now (list .exit)) ⌝ }
+{
+    let rows = all_rows();
+    let number = failed_test(table, &rows, present, selection, wanted);
+    if number != 0 {
+        return refused(number);
+    }
+    list_changes(table, &rows, present, selection, wanted, list)
+}

@@ -1,5 +1,2 @@
--- What a room is: the module table, labels, parameters, and the value list.
-pub mod Label
-pub mod Parameters
+-- The module table: when it is sound, and its records.
 pub mod Table
-pub mod Values

@@ -1,4 +1,5 @@
 -- The module table: records of one byte of kind and a body whose length the kind fixes.
+pub mod Bytes
 pub mod Checked
 pub mod Every
 pub mod Modules
@@ -13,7 +14,7 @@ use Prim.Native.Nat.{ℕ, zero, suc, _+_}
 use lib.Dec.{eqb, leb}
 use lib.ListN.{length, take, drop}
 use Rattle.text.specs.Cut.{indexOf, before}
-use Rattle.catalogue.specs.Every.{every}
+use Rattle.text.specs.Every.{every}
 use Rattle.catalogue.specs.Catalogue.{known, rowsOf}
 use Rattle.room.specs.declared.table.Module.{Module}
 use Rattle.room.specs.declared.table.ModuleFound.{ModuleFound}

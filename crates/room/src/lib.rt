@@ -1,6 +1,2 @@
-// What a room is: the catalogue of parameters, the module table, labels, and the value list.
-
-pub mod label;
-pub mod parameter;
+// The module table of a room.
 pub mod table;
-pub mod values;

@@ -116,9 +116,6 @@ fn field_sound(field: &[u8]) -> bool
     if 32 < end {
         return false;
     }
-    if end == field.len() {
-        return true;
-    }
     zero_count(field) == field.len() - end
 }
 

@@ -13,10 +13,10 @@ use lib.ListN.{length}
 use lib.Seq.{sets}
 use Rattle.text.specs.Cut.{has, indexOf, before}
 use Rattle.room.specs.Table.{sound}
-use Rattle.room.specs.Values.{valuesSound}
+use Rattle.values.specs.Values.{valuesSound}
 use Rattle.line.specs.Shape.{lineLimit}
-use Rattle.wire.specs.Reply.{nak}
-use Rattle.line.specs.Answer.{Answer, answer}
+use Rattle.reply.specs.Reply.{nak}
+use Rattle.answer.specs.Answer.{Answer, answer}
 use Rattle.serial_port.specs.Port.{View, held, over, view, fresh, join}
 use Rattle.serial_port.specs.declared.port.Port.{Port}
 use Rattle.serial_port.specs.declared.port.Called.{Called}

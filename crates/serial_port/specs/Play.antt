@@ -10,7 +10,7 @@ use lib.Dec.{eqb}
 use lib.IntN.{ℤ}
 use lib.ListN.{length, drop}
 use Rattle.text.specs.Cut.{has}
-use Rattle.line.specs.Answer.{answer}
+use Rattle.answer.specs.Answer.{answer}
 use Rattle.serial_port.specs.Port.{View, fresh, claim, join}
 use Rattle.serial_port.specs.Call.{Answering, Step, step, finish, callNumber}
 

@@ -1,3 +1,2 @@
 // The port: bytes collected into lines, and one reply to each.
 pub mod port;
-pub mod stream;

@@ -1,18 +1,18 @@
 // The port: it collects bytes into lines, and answers each line once.
+use answer::answer_line;
 use catalogue::rows::all_rows;
-use line::answer::answer_line;
+use reply::put_nak;
 use room::table::is_sound;
-use room::values::are_sound;
 use text::cut::find;
-use text::write::put_bytes;
-use wire::reply::put_nak;
+use values::are_sound;
+use written::put_bytes;
 ghost use mathlib.Core.Bool.{true};
 ghost use mathlib.Core.Path.{_≡_};
 ghost use Prim.Native.Nat.{_≤_};
 ghost use lib.ListN.{length};
 ghost use Rattle.catalogue.specs.Catalogue.{numbers};
 ghost use Rattle.room.specs.Table.{sound};
-ghost use Rattle.room.specs.Values.{valuesSound};
+ghost use Rattle.values.specs.Values.{valuesSound};
 ghost use Rattle.serial_port.specs.Call.{Answers, callNumber};
 ghost use Rattle.serial_port.specs.Call.Finishing.{Finishes};
 ghost use Rattle.serial_port.specs.Port.{fresh, view};

@@ -1,7 +1,7 @@
 -- Cutting a byte sequence at the first of a given byte.
 pub mod Lacking
 pub mod Laws
-use mathlib.Core.Bool.{Bool, true, cond, _&&_}
+use mathlib.Core.Bool.{Bool, cond}
 use mathlib.Core.List.{List, [], _∷_}
 use Prim.Native.Nat.{ℕ, suc}
 use lib.Dec.{eqb, ltb}
@@ -23,8 +23,3 @@ before b s = take (indexOf b s) s
 -- what stands after the first b: nothing, where there is none
 unfoldable pub after : ℕ → List ℕ → List ℕ
 after b s = drop (suc (indexOf b s)) s
-
--- every byte passes a test
-unfoldable pub every : (ℕ → Bool) → List ℕ → Bool
-every test [] = true
-every test (x ∷ s) = test x && every test s

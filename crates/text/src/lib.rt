@@ -1,9 +1,5 @@
-// Numbers as text: cutting at a byte, decimal digits, level and switch texts; read from a slice, and written into a lent buffer.
+// Numbers as text: cutting at a byte, decimal digits, number and switch texts.
 pub mod cut;
-mod digit;
-pub mod length;
-pub mod level;
+pub mod digit;
 pub mod number;
-pub mod sign;
 pub mod switch;
-pub mod write;

@@ -7,10 +7,10 @@ use native.Mathlib.Omega.{arith}
 use borrow.Author.Tests.{not-false}
 use lib.IntN.{ℤ}
 use lib.ListN.{length}
-use Rattle.room.specs.Parameters.{parameters}
+use Rattle.parameter.specs.Parameters.{parameters}
 use Rattle.room.specs.Table.{sound}
-use Rattle.room.specs.Values.{starts}
-use Rattle.room.specs.Values.Starting.{length-starts}
+use Rattle.values.specs.Values.{starts}
+use Rattle.values.specs.Values.Starting.{length-starts}
 
 pub told-sound : (t : List ℕ) (b : Bool) → b ≡ sound t → not b ≡ false → sound t ≡ true
 told-sound t b e h = sym e ∙ not-false b h

@@ -1,10 +1,10 @@
 // A script played on a room: lines, each with its 0D and then the reply that it must get.
 use catalogue::rows::all_rows;
-use room::parameter::parameter_count;
+use parameter::parameter_count;
 use room::table::is_sound;
-use room::values::fill_starts;
 use serial_port::port::Port;
 use text::cut::find;
+use values::fill_starts;
 
 // How many lines were played, and the number of the first wrong answer, from 1, or 0.
 pub struct Tally {

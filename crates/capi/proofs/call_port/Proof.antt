@@ -1,6 +1,6 @@
 -- `call_port`: the call on the port that the bytes say, and its port stored.
 use borrow.Author.Needs.{needs}
-use Rattle.capi.specs.Port.Calling.{calling}
+use Rattle.lent.specs.Port.Calling.{calling}
 use Rattle.capi.proofs.call_port.Statement.{statement}
 use Rattle.capi.proofs.call_port.Tie as tie
 

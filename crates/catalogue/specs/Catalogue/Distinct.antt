@@ -5,12 +5,12 @@ use mathlib.Core.List.{List, [], _∷_}
 use Prim.Native.Nat.{ℕ}
 use borrow.Author.Tests.{eq-eqb, eqb-true}
 use lib.Dec.{eqb}
-use Rattle.catalogue.specs.Every.{both-left, both-right, every, pairs}
+use Rattle.text.specs.Every.{both-left, both-right, every, pairs}
 use Rattle.catalogue.specs.Catalogue.{Entry, catalogue, rowsIn, rowsOf}
 use Rattle.catalogue.specs.Catalogue.Each.{rows-tested}
 use Rattle.catalogue.specs.Catalogue.Rules.{catalogue-distinct, differ}
-use Rattle.catalogue.specs.Row.{sameIndices}
-use Rattle.catalogue.specs.declared.rows.Row.{Row}
+use Rattle.row.specs.Row.{sameIndices}
+use Rattle.row.specs.declared.Row.{Row}
 
 -- two rows do not have the same indices
 unfoldable pub rowsDiffer : Row → Row → Bool

@@ -5,9 +5,9 @@ use mathlib.Core.List.{List, [], _∷_}
 use Prim.Native.Nat.{ℕ}
 use borrow.Author.Tests.{eqb-true}
 use lib.Dec.{eqb}
-use Rattle.catalogue.specs.Every.{both-left, both-right, every}
+use Rattle.text.specs.Every.{both-left, both-right, every}
 use Rattle.catalogue.specs.Catalogue.{Entry, rowsIn}
-use Rattle.catalogue.specs.declared.rows.Row.{Row}
+use Rattle.row.specs.declared.Row.{Row}
 
 -- what holds of every entry of a table holds of the rows of each type
 pub rows-tested : (test : Entry → Bool) (owner : ℕ) (tests : Row → Bool)

@@ -1,18 +1,18 @@
 -- Every row's arithmetic stays within 64 bits: one test over the table.
-use mathlib.Core.Path.{_≡_, refl, sym}
+use mathlib.Core.Path.{_≡_, refl}
 use mathlib.Core.Bool.{Bool, true, _&&_}
 use Prim.Native.Nat.{ℕ, _^_, _<_}
 use borrow.Author.Tests.{ltb-true}
 use lib.Dec.{ltb}
 use lib.ListN.{length}
 use lib.Signed.{mag}
-use Rattle.catalogue.specs.Every.{both-left, both-right, every, every-at}
-use Rattle.catalogue.specs.Catalogue.{Entry, catalogue, known, level, minus, number, rowsOf, switch}
+use Rattle.text.specs.Every.{both-left, both-right, every, every-at}
+use Rattle.catalogue.specs.Catalogue.{catalogue, known, level, minus, number, rowsOf, switch}
 use Rattle.catalogue.specs.Catalogue.Each.{entryTest}
 use Rattle.catalogue.specs.Catalogue.Laws.{in-run, run-within}
 use Rattle.catalogue.specs.Catalogue.Rules.{entryAt, noEntry, rowOf}
-use Rattle.catalogue.specs.Row.Laws.{RowFits}
-use Rattle.catalogue.specs.declared.rows.Row.{Row}
+use Rattle.row.specs.Row.Laws.{RowFits}
+use Rattle.row.specs.declared.Row.{Row}
 
 unfoldable pub fits : Row → Bool
 fits r = ltb (mag (r .low)) (2 ^ 62) && (ltb (mag (r .high)) (2 ^ 62) && ltb 0 (r .step))

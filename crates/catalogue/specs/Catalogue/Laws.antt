@@ -1,10 +1,8 @@
 -- Laws of the catalogue: the module types are the six, and each type's rows are a run of the catalogue.
-use mathlib.Core.Path.{_≡_, refl, ap, subst, sym, _∙_}
-use mathlib.Core.Bool.{Bool, true, false, _&&_}
-use mathlib.Core.List.{List, [], _∷_, map}
-use mathlib.Core.Logic.{_⊎_, inl, inr, ⊎-elim}
+use mathlib.Core.Path.{_≡_, refl, ap, sym, _∙_}
+use mathlib.Core.Bool.{true}
+use mathlib.Core.List.{List, map}
 use Prim.Native.Nat.{ℕ, zero, suc, _+_, _≤_, _<_}
-use native.Mathlib.Nat.{eq-or-lt-of-le}
 use native.Mathlib.Omega.{arith}
 use borrow.Author.Tests.{leb-true}
 use lib.Dec.{leb, lit≤}
@@ -12,10 +10,10 @@ use lib.ListN.{length, getD, take, drop, List·getD-map}
 use lib.Seq.{getD-take, getD-drop}
 use mir.Syntax.{w64}
 use mir.Val.{Fits}
-use Rattle.catalogue.specs.Every.{both-left, both-right}
+use Rattle.text.specs.Every.{both-left, both-right}
 use Rattle.catalogue.specs.Catalogue.{Entry, catalogue, firstRow, known, level, minus, number, rowsBefore, rowsIn, rowsOf, switch}
 use Rattle.catalogue.specs.Catalogue.Rules.{entryAt, noEntry, noRow, rowOf}
-use Rattle.catalogue.specs.declared.rows.Row.{Row}
+use Rattle.row.specs.declared.Row.{Row}
 
 -- the bounds of a module type
 pub record Known (kind : ℕ) : Type 0 where

@@ -1,8 +1,8 @@
 -- What a row's eight numbers say: the row again.
-use mathlib.Core.Path.{_≡_, refl, ap, sym, _∙_}
-use mathlib.Core.Bool.{Bool, true, false, cond}
+use mathlib.Core.Path.{_≡_, refl, ap}
+use mathlib.Core.Bool.{true, false}
 use mathlib.Core.List.{List, [], _∷_, map}
-use Prim.Native.Nat.{ℕ, zero, suc, _+_, _*_, _<_}
+use Prim.Native.Nat.{ℕ, zero, suc, _<_}
 use native.Mathlib.Nat.{le-of-suc-le-suc, not-suc-le-zero}
 use native.Mathlib.Omega.{arith}
 use borrow.Author.Tests.{ltb-true}
@@ -15,10 +15,10 @@ use mir.Syntax.{w64}
 use mir.Val.{Fits, SFits, ofZ, toZ}
 use Rattle.catalogue.specs.Catalogue.{Entry, catalogue, columns, firstNumber, kindNumber, numbers, secondNumber}
 use Rattle.catalogue.specs.Catalogue.Rules.{entryAt, noEntry}
-use Rattle.catalogue.specs.declared.rows.Indices.{Indices}
-use Rattle.catalogue.specs.declared.rows.Indices.the-variants.{OneGroup, TwoGroups}
-use Rattle.catalogue.specs.declared.rows.Kind.{Kind}
-use Rattle.catalogue.specs.declared.rows.Kind.the-variants.{Level, Switch, Number}
+use Rattle.row.specs.declared.Indices.{Indices}
+use Rattle.row.specs.declared.Indices.the-variants.{OneGroup, TwoGroups}
+use Rattle.row.specs.declared.Kind.{Kind}
+use Rattle.row.specs.declared.Kind.the-variants.{Level, Switch, Number}
 
 in-map : (es : List Entry) (n : ℕ) → n < length es → getD (map columns es) n [] ≡ columns (getD es n noEntry)
 in-map [] n h = absurd (not-suc-le-zero h)

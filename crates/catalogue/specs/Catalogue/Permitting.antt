@@ -1,23 +1,23 @@
 -- Rules for testing a value against a row's own numbers, which fit in 32 bits.
-use mathlib.Core.Path.{_≡_, refl, ap, sym, _∙_}
+use mathlib.Core.Path.{_≡_, refl, sym, _∙_}
 use mathlib.Core.Bool.{true, false}
-use Prim.Native.Nat.{ℕ, _+_, _%_, _^_, _<_}
+use Prim.Native.Nat.{ℕ, _%_, _^_, _<_}
 use native.Mathlib.Omega.{arith}
 use borrow.Author.Tests.{eq-eqb}
 use lib.Dec.{T, eqb, lit<}
-use lib.IntN.{ℤ, pos, natAbs, _-ℤ_}
+use lib.IntN.{ℤ, natAbs, _-ℤ_}
 use lib.ListN.{length}
-use lib.Signed.{ltZ, mag, nonNeg}
-use mir.Facts.{fits-natAbs, toZ-ofZ}
+use lib.Signed.{ltZ, nonNeg}
+use mir.Facts.{fits-natAbs}
 use mir.Syntax.{w32, w64}
-use mir.Val.{Fits, SFits, ofZ, toZ}
+use mir.Val.{Fits, SFits}
 use Rattle.catalogue.specs.Catalogue.{catalogue, columns}
 use Rattle.catalogue.specs.Catalogue.Fits.{entry-fits}
 use Rattle.catalogue.specs.Catalogue.Numbers.{columnAt}
 use Rattle.catalogue.specs.Catalogue.Reading.{number-narrow}
 use Rattle.catalogue.specs.Catalogue.Rules.{entryAt}
-use Rattle.catalogue.specs.Row.{permitted}
-use Rattle.catalogue.specs.Row.Laws.{bits, distance-below, distance-fits, distance-sign, divided, too-high, too-low}
+use Rattle.row.specs.Row.{permitted}
+use Rattle.row.specs.Row.Laws.{bits, distance-below, distance-fits, distance-sign, divided, too-high, too-low}
 
 low-is : (n : ℕ) → columnAt n 4 ≡ entryAt n .row .low
 unfolding columnAt columns
@@ -40,9 +40,9 @@ step-positive n s h e = let d = e ∙ step-is n in omega (arith, entry-fits n h 
 one-divides : (n : ℕ) → n % 1 ≡ 0
 one-divides n = omega arith
 
-module _ (n : ℕ) (v low : ℤ) (inside : n < length catalogue) (sfit : SFits w64 v) (l : low ≡ columnAt n 4) where
-  pub row-too-low : ltZ (bits v) (bits low) ≡ true → false ≡ permitted (entryAt n .row) v
-  row-too-low e = too-low (entryAt n .row) v (entry-fits n inside) sfit (rw (l, low-is n) at e)
+pub row-too-low : (n : ℕ) (v low : ℤ) → n < length catalogue → SFits w64 v → low ≡ columnAt n 4
+    → ltZ (bits v) (bits low) ≡ true → false ≡ permitted (entryAt n .row) v
+row-too-low n v low inside sfit l e = too-low (entryAt n .row) v (entry-fits n inside) sfit (rw (l, low-is n) at e)
 
 pub row-too-high : (n : ℕ) (v high : ℤ) → n < length catalogue → SFits w64 v → high ≡ columnAt n 5
     → ltZ (bits high) (bits v) ≡ true → false ≡ permitted (entryAt n .row) v

@@ -12,7 +12,7 @@ use mathlib.Core.List.{List, []}
 use mir.Facts.{fits-natAbs, sfits-widen, toZ-ofZ}
 use mir.Syntax.{w32, w64}
 use mir.Val.{Fits, SFits, ofZ, toZ}
-use Rattle.catalogue.specs.Every.{every, every-at}
+use Rattle.text.specs.Every.{every, every-at}
 use Rattle.catalogue.specs.Catalogue.Numbers.{column, columnAt}
 use Rattle.catalogue.specs.Catalogue.{Entry, catalogue, columns, firstNumber, kindNumber, level, minus, number, numbers, secondNumber, switch}
 use Rattle.catalogue.specs.Catalogue.Rules.{entryAt, noEntry}

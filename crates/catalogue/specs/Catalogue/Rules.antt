@@ -2,18 +2,17 @@
 -- rows stand in rising order of type, index 1 and index 2, and no type has two rows with the same indices.
 use mathlib.Core.Path.{_≡_, refl}
 use mathlib.Core.Bool.{Bool, true, false, not, _&&_, _||_}
-use mathlib.Core.List.{List}
-use Prim.Native.Nat.{ℕ, _%_, _^_, _<_}
+use Prim.Native.Nat.{ℕ, _%_, _<_}
 use borrow.Author.Tests.{eqb-true, ltb-true}
 use lib.Dec.{eqb, ltb}
-use lib.IntN.{ℤ, pos, natAbs, _-ℤ_}
+use lib.IntN.{natAbs, _-ℤ_}
 use lib.ListN.{getD, length}
 use lib.Signed.{ltZ}
-use Rattle.catalogue.specs.Every.{both-left, both-right, every, every-at, pairs, pairs-at}
-use Rattle.catalogue.specs.Catalogue.{Entry, catalogue, firstNumber, level, minus, number, rowsIn, rowsOf, secondNumber, switch}
-use Rattle.catalogue.specs.Row.{sameIndices}
-use Rattle.catalogue.specs.declared.rows.Indices.the-variants.{OneGroup}
-use Rattle.catalogue.specs.declared.rows.Row.{Row}
+use Rattle.text.specs.Every.{both-left, both-right, every, every-at, pairs, pairs-at}
+use Rattle.catalogue.specs.Catalogue.{Entry, catalogue, firstNumber, level, minus, number, rowsOf, secondNumber, switch}
+use Rattle.row.specs.Row.{sameIndices}
+use Rattle.row.specs.declared.Indices.the-variants.{OneGroup}
+use Rattle.row.specs.declared.Row.{Row}
 
 -- no entry: what stands past the catalogue's end
 unfoldable pub noEntry : Entry

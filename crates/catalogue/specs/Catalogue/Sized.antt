@@ -7,15 +7,15 @@ use borrow.Author.Tests.{eqb-true, leb-true, ltb-true}
 use lib.Dec.{eqb, ltb}
 use lib.IntN.{ℤ, pos, negsuc, natAbs, _-ℤ_}
 use lib.Signed.{leZ}
-use Rattle.catalogue.specs.Every.{both-left, both-right, every, never}
+use Rattle.text.specs.Every.{both-left, both-right, every, never}
 use Rattle.catalogue.specs.Catalogue.{catalogue, level as level′, minus, number as number′, rowsOf, switch as switch′}
 use Rattle.catalogue.specs.Catalogue.Each.{entryTest, every-type}
-use Rattle.catalogue.specs.Row.{permitted}
-use Rattle.catalogue.specs.declared.rows.Indices.{Indices}
-use Rattle.catalogue.specs.declared.rows.Indices.the-variants.{OneGroup, TwoGroups}
-use Rattle.catalogue.specs.declared.rows.Kind.{Kind}
-use Rattle.catalogue.specs.declared.rows.Kind.the-variants.{Level, Switch, Number}
-use Rattle.catalogue.specs.declared.rows.Row.{Row}
+use Rattle.row.specs.Row.{permitted}
+use Rattle.row.specs.declared.Indices.{Indices}
+use Rattle.row.specs.declared.Indices.the-variants.{OneGroup, TwoGroups}
+use Rattle.row.specs.declared.Kind.{Kind}
+use Rattle.row.specs.declared.Kind.the-variants.{Level, Switch, Number}
+use Rattle.row.specs.declared.Row.{Row}
 
 unfoldable pub sizedIndices : Indices → Bool
 sizedIndices (OneGroup a) = ltb a 1000

@@ -1,23 +1,22 @@
 -- Rules for taking a row from its eight numbers.
-use mathlib.Core.Path.{_≡_, refl, ap, sym, _∙_}
+use mathlib.Core.Path.{_≡_, refl, _∙_}
 use mathlib.Core.Bool.{Bool, true, false, cond}
 use Prim.Native.Nat.{ℕ, _<_}
 use lib.Dec.{T, eqb, lit<}
 use lib.IntN.{ℤ, pos, natAbs}
 use lib.ListN.{length}
 use lib.Signed.{nonNeg}
-use mir.Facts.{toZ-ofZ}
 use mir.Syntax.{w64}
 use mir.Val.{ofZ, toZ}
-use Rattle.catalogue.specs.Catalogue.{catalogue, columns, firstNumber, kindNumber, secondNumber}
+use Rattle.catalogue.specs.Catalogue.{catalogue, columns, firstNumber, kindNumber}
 use Rattle.catalogue.specs.Catalogue.Numbers.{columnAt, indicesFrom, indices-back, kindFrom, kind-back}
 use Rattle.catalogue.specs.Catalogue.Reading.{column-bits}
 use Rattle.catalogue.specs.Catalogue.Rules.{entryAt}
-use Rattle.catalogue.specs.declared.rows.Indices.{Indices}
-use Rattle.catalogue.specs.declared.rows.Indices.the-variants.{OneGroup, TwoGroups}
-use Rattle.catalogue.specs.declared.rows.Kind.{Kind}
-use Rattle.catalogue.specs.declared.rows.Kind.the-variants.{Level, Switch, Number}
-use Rattle.catalogue.specs.declared.rows.Row.{Row}
+use Rattle.row.specs.declared.Indices.{Indices}
+use Rattle.row.specs.declared.Indices.the-variants.{OneGroup, TwoGroups}
+use Rattle.row.specs.declared.Kind.{Kind}
+use Rattle.row.specs.declared.Kind.the-variants.{Level, Switch, Number}
+use Rattle.row.specs.declared.Row.{Row}
 
 -- ---- the columns that are not negative
 

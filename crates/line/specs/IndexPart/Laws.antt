@@ -10,18 +10,17 @@ use lib.ListN.{length, length-append}
 use Rattle.text.specs.Cut.{indexOf, has, before, after}
 use Rattle.text.specs.Cut.Lacking.{lacks-cons, lacks-append, has-not, has-joined, before-joined, after-joined, parted}
 use Rattle.text.specs.Digits.{isDigit, digits}
-use Rattle.text.specs.Digits.Value.{digits-short}
 use Rattle.text.specs.Number.{readNumber}
 use Rattle.text.specs.Number.Laws.{number-back, number-shortest}
-use Rattle.text.specs.ValueBytes.{valueByte, digits-bytes, no-other}
+use Rattle.level.specs.ValueBytes.{valueByte, digits-bytes, no-other}
 use Rattle.text.specs.declared.number.Number.{Number}
 use Rattle.text.specs.declared.number.Number.the-variants as read
-use Rattle.catalogue.specs.Every.{both-left, both-right}
+use Rattle.text.specs.Every.{both-left, both-right}
 use Rattle.catalogue.specs.Catalogue.Sized.{sizedIndices}
-use Rattle.catalogue.specs.declared.rows.Indices.{Indices}
-use Rattle.catalogue.specs.declared.rows.Indices.the-variants.{OneGroup, TwoGroups}
+use Rattle.row.specs.declared.Indices.{Indices}
+use Rattle.row.specs.declared.Indices.the-variants.{OneGroup, TwoGroups}
 use Rattle.line.specs.IndexPart.{oneGroup, twoGroups, groups, readIndices}
-use Rattle.wire.specs.Reply.{indexText}
+use Rattle.name.specs.Name.{indexText}
 use Rattle.line.specs.declared.index.IndexPart.the-variants.{Right, Wrong}
 
 wrong {ℓ} : {A : Type ℓ} (i : Indices) → Wrong ≡ Right i → A
@@ -98,11 +97,3 @@ indices-lack b (TwoGroups a c) d n =
     lacks-cons b 0x3E (digits a ++ (0x3E ∷ digits c)) n
     (lacks-append b (digits a) (0x3E ∷ digits c) (no-other b (digits a) d (digits-bytes a))
     (lacks-cons b 0x3E (digits c) n (no-other b (digits c) d (digits-bytes c))))
-
-pub indices-short : (i : Indices) → sizedIndices i ≡ true → length (indexText i) ≤ 8
-unfolding sizedIndices indexText
-indices-short (OneGroup a) h = omega (arith, digits-short a 3 (omega arith) (ltb-true a 1000 h))
-indices-short (TwoGroups a b) h =
-    let p = ltb-true a 1000 (both-left (ltb a 1000) (ltb b 1000) h) in
-    let q = ltb-true b 1000 (both-right (ltb a 1000) (ltb b 1000) h) in
-    simp length-append (omega (arith, digits-short a 3 (omega arith) p, digits-short b 3 (omega arith) q))

@@ -11,7 +11,7 @@ use Rattle.text.specs.Cut.{indexOf, has, before, after}
 use Rattle.text.specs.Number.{readNumber}
 use Rattle.text.specs.declared.number.Number.{Number}
 use Rattle.text.specs.declared.number.Number.the-variants as read
-use Rattle.catalogue.specs.declared.rows.Indices.the-variants.{OneGroup, TwoGroups}
+use Rattle.row.specs.declared.Indices.the-variants.{OneGroup, TwoGroups}
 use Rattle.line.specs.IndexPart.{oneGroup, twoGroups, groups, readIndices}
 use Rattle.line.specs.declared.index.IndexPart.{IndexPart}
 use Rattle.line.specs.declared.index.IndexPart.the-variants.{Right, Wrong}

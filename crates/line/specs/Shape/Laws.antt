@@ -11,7 +11,7 @@ use lib.ListN.{length, getD, drop, length-append}
 use lib.Seq.{take-at, take-length, drop-append-add}
 use Rattle.text.specs.Cut.{indexOf}
 use Rattle.text.specs.Cut.Lacking.{index-joined}
-use Rattle.room.specs.Label.{same}
+use Rattle.label.specs.Label.{same}
 use Rattle.line.specs.Shape.{lineLimit, isSet, isGet, opening, firstFrom, closing, equals, getShape, setShape, quoted, shape, part}
 use Rattle.line.specs.declared.shape.Shape.{Shape}
 use Rattle.line.specs.declared.shape.Shape.the-variants.{Malformed, Set}
@@ -29,7 +29,7 @@ pub record Ordered (line : List ℕ) (o c e : ℕ) : Type 0 where
 malformed {ℓ} : {A : Type ℓ} (o c e : ℕ) → Malformed ≡ Set o c e → A
 malformed o c e h = absurd (let z : _≡_ {A = ℕ} 0 1 = cc in omega arith)
 
-after-verb : (line : List ℕ) → 2 ≤ opening line
+pub after-verb : (line : List ℕ) → 2 ≤ opening line
 unfolding opening
 after-verb line = go (eqb (getD line 2 0) 0x20)
   where

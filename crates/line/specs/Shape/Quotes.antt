@@ -9,7 +9,7 @@ use lib.Dec.{eqb, ltb}
 use lib.ListN.{length, getD, List·getD-eq-default}
 use mir.Syntax.{w64}
 use mir.Val.{Fits}
-use Rattle.line.specs.Shape.{opening, firstFrom, closing, equals, getShape, setShape, quoted, shape}
+use Rattle.line.specs.Shape.{opening, firstFrom, closing, equals, getShape, setShape, quoted}
 use Rattle.line.specs.declared.shape.Quotes.{Quotes}
 use Rattle.line.specs.declared.shape.Quotes.the-variants.{At, Missing}
 use Rattle.line.specs.declared.shape.Shape.{Shape}

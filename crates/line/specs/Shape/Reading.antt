@@ -2,7 +2,7 @@
 use mathlib.Core.Path.{_≡_, refl, sym, _∙_, ap}
 use mathlib.Core.Bool.{Bool, true, false, cond, _&&_}
 use mathlib.Core.List.{List, [], _∷_}
-use Prim.Native.Nat.{ℕ, suc, _+_, _-_, _<_, _≤_}
+use Prim.Native.Nat.{ℕ, _+_, _-_, _<_, _≤_}
 use native.Mathlib.Omega.{arith}
 use borrow.Author.Tests.{eq-eqb, ne-eqb, leb-true, lt-ltb, le-ltb}
 use lib.Dec.{eqb, leb, ltb}
@@ -11,24 +11,17 @@ use lib.Seq.{take-all}
 use mir.Syntax.{w64}
 use mir.Val.{Fits}
 use Rattle.text.specs.Cut.{indexOf}
-use Rattle.room.specs.Label.{same}
+use Rattle.label.specs.Label.{same}
 use Rattle.line.specs.Shape.{lineLimit, isSet, isGet, opening, firstFrom, closing, equals, getShape, setShape, quoted, shape}
 use Rattle.line.specs.Shape.Quotes.{Between, no-place, quotes, quotes-at, quotes-missing}
 use Rattle.line.specs.declared.shape.Quotes.{Quotes}
 use Rattle.line.specs.declared.shape.Quotes.the-variants.{At, Missing}
 use Rattle.line.specs.declared.shape.Shape.{Shape}
 use Rattle.line.specs.declared.shape.Shape.the-variants.{Malformed, Get, Set}
+use Rattle.text.specs.Cut.Laws.{index-within}
+use Rattle.line.specs.Shape.Laws.{after-verb}
 
 -- ---- a byte sought from a place on
-
-index-within : (b : ℕ) (s : List ℕ) → indexOf b s ≤ length s
-unfolding indexOf
-index-within b [] = omega arith
-index-within b (x ∷ s) = either (eqb x b) (index-within b s)
-  where
-    either : (t : Bool) → indexOf b s ≤ length s → cond t 0 (suc (indexOf b s)) ≤ suc (length s)
-    either true h = omega arith
-    either false h = omega arith
 
 module _ (b from i : ℕ) (line : List ℕ) (l : from ≤ length line) (e : i ≡ indexOf b (take (length line - from) (drop from line))) where
   sought : i ≡ indexOf b (drop from line)
@@ -73,14 +66,6 @@ at-any-length line s e = go (ltb lineLimit (length line))
     go : (a : Bool) → Malformed ≡ cond a Malformed s
     go true = refl
     go false = sym e
-
-after-verb : (line : List ℕ) → 2 ≤ opening line
-unfolding opening
-after-verb line = go (eqb (getD line 2 0) 0x20)
-  where
-    go : (b : Bool) → 2 ≤ cond b 3 2
-    go true = omega arith
-    go false = omega arith
 
 pub too-short : (line : List ℕ) → length line ≤ 2 → Malformed ≡ shape line
 unfolding shape

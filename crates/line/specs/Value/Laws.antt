@@ -5,8 +5,8 @@ use mathlib.Core.List.{List}
 use Prim.Native.Nat.{ℕ}
 use native.Mathlib.Omega.{arith}
 use lib.IntN.{ℤ}
-use Rattle.catalogue.specs.Row.{permitted}
-use Rattle.catalogue.specs.declared.rows.Row.{Row}
+use Rattle.row.specs.Row.{permitted}
+use Rattle.row.specs.declared.Row.{Row}
 use Rattle.line.specs.Value.{readKind, onlyPermitted, readValue}
 use Rattle.line.specs.declared.value.ValueText.{ValueText}
 use Rattle.line.specs.declared.value.ValueText.the-variants.{Value, Wrong}

@@ -5,30 +5,30 @@ use mathlib.Core.List.{List}
 use Prim.Native.Nat.{ℕ, zero, suc, _+_, _%_, _^_, _<_, _≤_}
 use native.Mathlib.Nat.{pow-le-pow-right}
 use native.Mathlib.Omega.{arith}
-use borrow.Author.Tests.{leb-true, lt-ltb, not-true, not-false}
+use borrow.Author.Tests.{lt-ltb, not-true, not-false}
 use lib.Dec.{eqb}
 use lib.IntN.{ℤ, pos, negsuc, natAbs, _-ℤ_}
 use lib.Signed.{leZ, mag}
 use mir.Facts.{toZ-ofZ, toZ-pos}
 use mir.Syntax.{w64}
 use mir.Val.{SFits, toZ}
-use Rattle.text.specs.Level.{readLevel}
-use Rattle.text.specs.Level.Laws.{level-below}
+use Rattle.level.specs.Level.{readLevel}
+use Rattle.level.specs.Level.Laws.{level-below}
 use Rattle.text.specs.Number.{readNumber}
 use Rattle.text.specs.Number.Laws.{number-below}
 use Rattle.text.specs.Switch.{readSwitch}
-use Rattle.text.specs.declared.level.Level.{Level}
-use Rattle.text.specs.declared.level.Level.the-variants as level
+use Rattle.level.specs.declared.Level.{Level}
+use Rattle.level.specs.declared.Level.the-variants as level
 use Rattle.text.specs.declared.number.Number.{Number}
 use Rattle.text.specs.declared.number.Number.the-variants as number
 use Rattle.text.specs.declared.switch.Switch.{Switch}
 use Rattle.text.specs.declared.switch.Switch.the-variants as switch
-use Rattle.catalogue.specs.Every.{both-left, both-right}
-use Rattle.catalogue.specs.Row.{permitted}
-use Rattle.catalogue.specs.Row.Laws.{RowFits, bits}
-use Rattle.catalogue.specs.declared.rows.Row.{Row}
-use Rattle.catalogue.specs.declared.rows.Kind.{Kind}
-use Rattle.catalogue.specs.declared.rows.Kind.the-variants as kind
+use Rattle.text.specs.Every.{both-left, both-right}
+use Rattle.row.specs.Row.{permitted}
+use Rattle.row.specs.Row.Laws.{RowFits, bits, between, value-bits}
+use Rattle.row.specs.declared.Row.{Row}
+use Rattle.row.specs.declared.Kind.{Kind}
+use Rattle.row.specs.declared.Kind.the-variants as kind
 use Rattle.line.specs.Value.{ofLevel, ofNumber, ofSwitch, readKind, onlyPermitted, readValue}
 use Rattle.line.specs.Value.Laws.{value-back, wrong-value}
 use Rattle.line.specs.declared.value.ValueText.{ValueText}
@@ -80,15 +80,12 @@ turn-near (pos (suc zero)) = omega arith
 turn-near (pos (suc (suc n))) = rw (lt-ltb 1 (suc (suc n)) (omega arith)) (omega arith)
 turn-near (negsuc n) = omega arith
 
-near-bits : (x : ℤ) → mag x < 2 ^ 62 → bits x ≡ x
-near-bits x h = toZ-ofZ (record { sfits = omega (arith, h) })
-
 turn-fits : (x : ℤ) → mag x < 2 ^ 62 → SFits w64 (pos 1 -ℤ x)
 turn-fits x h = record { sfits = omega (arith, turn-near x, h) }
 
 module _ (present : ℤ) (near : mag present < 2 ^ 62) where
   pub turned-fits : SFits w64 (pos 1 -ℤ bits present)
-  turned-fits = rw (near-bits present near) (turn-fits present near)
+  turned-fits = rw (value-bits present near) (turn-fits present near)
 
   module _ (s : List ℕ) (w : Switch) (e : w ≡ readSwitch s) where
     pub switch-on : w ≡ switch.On → Value (pos 1) ≡ ofSwitch present (readSwitch s)
@@ -101,7 +98,7 @@ module _ (present : ℤ) (near : mag present < 2 ^ 62) where
 
     pub switch-turned : w ≡ switch.Turn → Value (bits (pos 1 -ℤ bits present)) ≡ ofSwitch present (readSwitch s)
     unfolding ofSwitch
-    switch-turned h = rw (sym e ∙ h, toZ-ofZ turned-fits, near-bits present near)
+    switch-turned h = rw (sym e ∙ h, toZ-ofZ turned-fits, value-bits present near)
 
     pub switch-wrong : w ≡ switch.Wrong → Wrong ≡ ofSwitch present (readSwitch s)
     unfolding ofSwitch
@@ -118,24 +115,18 @@ module _ (k : Kind) (present : ℤ) (s : List ℕ) (r : ValueText) where
 
   pub kind-switch : mag present < 2 ^ 62 → k ≡ kind.Switch → r ≡ ofSwitch (bits present) (readSwitch s) → r ≡ readKind k present s
   unfolding readKind
-  kind-switch near e h = h ∙ rw (e, near-bits present near)
+  kind-switch near e h = h ∙ rw (e, value-bits present near)
 
   pub kind-number : k ≡ kind.Number → r ≡ ofNumber (readNumber 5 s) → r ≡ readKind k present s
   unfolding readKind
   kind-number e h = h ∙ rw e
 
 pub still-near : (present : ℤ) → mag present < 2 ^ 62 → mag (bits present) < 2 ^ 62
-still-near present near = rw (near-bits present near) near
+still-near present near = rw (value-bits present near) near
 
 pub ruleset kind-rules = (still-near, kind-level, kind-switch, kind-number)
 
 -- ---- the row
-
-between : (l v h : ℤ) → mag l < 2 ^ 62 → mag h < 2 ^ 62 → leZ l v ≡ true → leZ v h ≡ true → mag v < 2 ^ 62
-between l (pos b) (pos c) ml mh e f = let k = leb-true b c f in omega arith
-between l (pos b) (negsuc c) ml mh e f = absurd (let z : _≡_ {A = ℕ} 0 1 = cc in omega arith)
-between (pos a) (negsuc b) h ml mh e f = absurd (let z : _≡_ {A = ℕ} 0 1 = cc in omega arith)
-between (negsuc a) (negsuc b) h ml mh e f = let k = leb-true b a e in omega arith
 
 -- a permitted value is as near to 0 as its row's bounds
 pub permitted-near : (r : Row) (v : ℤ) → RowFits r → permitted r v ≡ true → mag v < 2 ^ 62
@@ -145,10 +136,10 @@ permitted-near r v fit h =
     let inside = both-left (leZ (r .low) v && leZ v (r .high)) on-step h in
     let over = both-left (leZ (r .low) v) (leZ v (r .high)) inside in
     let under = both-right (leZ (r .low) v) (leZ v (r .high)) inside in
-    between (r .low) v (r .high) (fit .low-fits) (fit .high-fits) over under
+    between (2 ^ 62) (r .low) v (r .high) (fit .low-fits) (fit .high-fits) over under
 
 pub permitted-bits : (r : Row) (v : ℤ) → RowFits r → permitted r v ≡ true → bits v ≡ v
-permitted-bits r v fit h = near-bits v (permitted-near r v fit h)
+permitted-bits r v fit h = value-bits v (permitted-near r v fit h)
 
 -- what a kind's text says fits
 level-within : (s : List ℕ) (v : ℤ) (l : Level) → readLevel s ≡ l → ofLevel l ≡ Value v → SFits w64 v

@@ -9,25 +9,25 @@ use lib.ListN.{length}
 use Rattle.text.specs.Cut.{indexOf}
 use Rattle.text.specs.Digits.{digits}
 use Rattle.text.specs.Digits.Value.{digits-short}
-use Rattle.text.specs.Level.{readLevel, levelText, oneDecimalText}
-use Rattle.text.specs.Level.Laws.{level-at-most-five, decimal-at-most-five, level-shortest, level-back, decimal-back}
+use Rattle.level.specs.Level.{readLevel, levelText, oneDecimalText}
+use Rattle.level.specs.Level.Laws.{level-at-most-five, decimal-at-most-five, level-shortest, level-back, decimal-back}
 use Rattle.text.specs.Number.{readNumber}
 use Rattle.text.specs.Number.Laws.{number-back, number-shortest}
 use Rattle.text.specs.Switch.{readSwitch, switchText}
-use Rattle.text.specs.Switch.Laws.{off-back, on-back, switch-one}
-use Rattle.text.specs.ValueBytes.{valueByte, digits-bytes, level-bytes, decimal-bytes, switch-bytes, no-other}
-use Rattle.text.specs.declared.level.Level.{Level}
-use Rattle.text.specs.declared.level.Level.the-variants as level
+use Rattle.text.specs.Switch.Laws.{off-back, on-back, switch-one, switch-length}
+use Rattle.level.specs.ValueBytes.{valueByte, digits-bytes, level-bytes, decimal-bytes, switch-bytes, no-other}
+use Rattle.level.specs.declared.Level.{Level}
+use Rattle.level.specs.declared.Level.the-variants as level
 use Rattle.text.specs.declared.number.Number.{Number}
 use Rattle.text.specs.declared.number.Number.the-variants as number
 use Rattle.text.specs.declared.switch.Switch.{Switch}
 use Rattle.text.specs.declared.switch.Switch.the-variants as switch
 use Rattle.catalogue.specs.Catalogue.Sized.{Sized}
 use Rattle.catalogue.specs.Catalogue.Sized as row
-use Rattle.catalogue.specs.declared.rows.Kind.{Kind}
-use Rattle.catalogue.specs.declared.rows.Kind.the-variants as kind
-use Rattle.wire.specs.Reply.{replyText}
-use Rattle.wire.specs.Say.{setText}
+use Rattle.row.specs.declared.Kind.{Kind}
+use Rattle.row.specs.declared.Kind.the-variants as kind
+use Rattle.reply.specs.Reply.{replyText}
+use Rattle.say.specs.Say.{setText}
 use Rattle.line.specs.Value.{ofLevel, ofNumber, ofSwitch, readKind}
 use Rattle.line.specs.Value.Laws.{wrong-value}
 use Rattle.line.specs.declared.value.ValueText.the-variants.{Value}
@@ -49,10 +49,6 @@ reply-back k x present row.on = rw on-back
 reply-back k x present (row.number n h) = rw (number-back 5 n (omega arith) h)
 
 -- ---- at most five bytes
-
-switch-length : (n : ℕ) → length (switchText n) ≡ 1
-unfolding switchText
-switch-length n = refl
 
 pub text-short : (k : Kind) (x : ℤ) → Sized k x → length (setText k x) ≤ 5
 unfolding setText

@@ -7,7 +7,7 @@ use native.Mathlib.Numerals.{add-one}
 use native.Mathlib.Omega.{arith}
 use lib.ListN.{length, getD, drop, drop-of-length-le}
 use lib.Seq.{drop-cons}
-use Rattle.catalogue.specs.Every.{every}
+use Rattle.text.specs.Every.{every}
 use Rattle.room.specs.Table.{}
 
 -- from a place on, the bytes before i meet the test

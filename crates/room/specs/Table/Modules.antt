@@ -8,8 +8,7 @@ use lib.Dec.{eqb}
 use lib.ListN.{length, getD, take, drop}
 use Rattle.text.specs.Cut.{before, indexOf}
 use Rattle.catalogue.specs.Catalogue.{known, rowsOf}
-use Rattle.catalogue.specs.Every.{both-left, both-right}
-use Rattle.catalogue.specs.Every.{every}
+use Rattle.text.specs.Every.{both-left, both-right, every}
 use Rattle.room.specs.Table.{bodyLength, bodySound, fieldSound, isZero, labelRight, moduleAt, modules, sound}
 use Rattle.room.specs.Table.Walk.{Walk, modulesAt, modules-end, modules-next, modules-start, walk-body, walk-few, walk-induction, walk-known, walk-room, walk-start}
 use Rattle.room.specs.declared.table.Module.{Module}

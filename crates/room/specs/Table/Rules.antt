@@ -1,15 +1,13 @@
 -- What the tests of a body leave, for each of their answers.
 use mathlib.Core.Path.{_≡_, refl, sym, _∙_}
-use mathlib.Core.Bool.{Bool, true, false, cond, not, _&&_}
-use mathlib.Core.List.{List, [], _∷_}
-use Prim.Native.Nat.{ℕ, suc, _+_, _≤_, _<_}
+use mathlib.Core.Bool.{Bool, true, false, not, _&&_}
+use mathlib.Core.List.{List}
+use Prim.Native.Nat.{ℕ, _+_, _≤_, _<_}
 use native.Mathlib.Omega.{arith}
 use borrow.Author.Tests.{eq-eqb, ne-eqb, le-leb, lt-leb, not-true, not-false}
 use lib.Dec.{eqb, leb}
 use lib.ListN.{length, getD}
-use Rattle.text.specs.Cut.{indexOf}
 use Rattle.catalogue.specs.Catalogue.{known}
-use Rattle.catalogue.specs.Every.{every}
 use Rattle.room.specs.Table.{bodyLength, bodySound, fieldSound, labelByte, labelRight}
 use Rattle.room.specs.Table.Every.{Passed, passed-start, passed-next, passed-not, passed-all}
 
@@ -72,17 +70,6 @@ label-not s i t p l e n =
 pub label-all : (s : List ℕ) (i : ℕ) → 1 ≤ length s → length s ≤ 32 → Passed labelByte s 0 i → length s ≤ i → true ≡ labelRight s
 unfolding labelRight
 label-all s i a b p l = rw (le-leb 1 (length s) a, le-leb (length s) 32 b) (passed-all labelByte s 0 i p l)
-
--- ---- the first zero byte
-
-pub index-within : (s : List ℕ) → indexOf 0 s ≤ length s
-unfolding indexOf
-index-within [] = omega arith
-index-within (b ∷ s) = either (eqb b 0) (index-within s)
-  where
-    either : (t : Bool) → indexOf 0 s ≤ length s → cond t 0 (suc (indexOf 0 s)) ≤ suc (length s)
-    either true l = omega arith
-    either false l = omega arith
 
 -- ---- a body
 

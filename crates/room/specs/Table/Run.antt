@@ -1,19 +1,19 @@
--- A field, tested in one pass: the bytes at its beginning that may stand in a label are the label, where zero bytes follow.
+-- A field: the bytes at its beginning that may stand in a label are the label, where only zero bytes follow.
 use mathlib.Core.Path.{_≡_, refl, ap, sym, _∙_}
-use mathlib.Core.Bool.{Bool, true, false, cond, not, _&&_}
+use mathlib.Core.Bool.{Bool, true, false, cond, not}
 use mathlib.Core.List.{List, [], _∷_}
 use Prim.Native.Nat.{ℕ, suc, _+_, _-_, _≤_, _<_}
 use native.Mathlib.Numerals.{add-one}
 use native.Mathlib.Omega.{arith}
-use borrow.Author.Tests.{eq-eqb, eqb-true, le-leb, ne-eqb, not-true, not-false}
+use borrow.Author.Tests.{eqb-true, le-leb, ne-eqb, not-true, not-false}
 use lib.Dec.{eqb}
 use lib.ListN.{length, getD, take, drop, drop-of-length-le, length-drop}
 use lib.Seq.{drop-cons, length-take-le}
 use Rattle.text.specs.Cut.{before, indexOf}
-use Rattle.catalogue.specs.Every.{both-left, both-right, every, never}
-use Rattle.room.specs.Label.Bytes.{Right, label-byte, label-right}
+use Rattle.text.specs.Every.{both-left, both-right, every}
+use Rattle.room.specs.Table.Bytes.{Right, label-byte, label-right}
 use Rattle.room.specs.Table.{fieldSound, isZero, labelByte, labelRight}
-use Rattle.room.specs.Table.Rules.{index-within}
+use Rattle.text.specs.Cut.Laws.{index-within}
 use Rattle.room.specs.Table.Tally.{tally, tally-every}
 
 -- how many bytes at the beginning meet a test
@@ -129,15 +129,16 @@ module _ (f : List ℕ) (end : ℕ) (e : end ≡ run labelByte f) where
   pub field-within : end ≤ length f
   field-within = omega (arith, run-within labelByte f)
 
-  pub field-empty : end < 1 → false ≡ fieldSound f
-  field-empty l =
+  -- shorter than a bound of at most 1, or longer than one of at least 32
+  pub field-empty : (k : ℕ) → k ≤ 1 → end < k → false ≡ fieldSound f
+  field-empty k b l =
       by-not (fieldSound f)
-      (λ q. let h = held f q in omega (arith, ends h, h .label .least, length-take-le (indexOf 0 f) f (index-within f)))
+      (λ q. let h = held f q in omega (arith, ends h, h .label .least, length-take-le (indexOf 0 f) f (index-within 0 f)))
 
-  pub field-long : 32 < end → false ≡ fieldSound f
-  field-long l =
+  pub field-long : (k : ℕ) → 32 ≤ k → k < end → false ≡ fieldSound f
+  field-long k b l =
       by-not (fieldSound f)
-      (λ q. let h = held f q in omega (arith, ends h, h .label .most, length-take-le (indexOf 0 f) f (index-within f)))
+      (λ q. let h = held f q in omega (arith, ends h, h .label .most, length-take-le (indexOf 0 f) f (index-within 0 f)))
 
   field-rest : (r : Bool) → 1 ≤ end → end ≤ 32 → r ≡ every isZero (drop end f) → r ≡ fieldSound f
   unfolding fieldSound before labelRight
@@ -150,10 +151,6 @@ module _ (f : List ℕ) (end : ℕ) (e : end ≡ run labelByte f) where
       by-not (fieldSound f)
       (λ q. let h = held f q in let c : false ≡ true = z ∙ rw (sym (ends h)) at (h .zeros) in let k : _≡_ {A = ℕ} 0 1 = cc in omega arith)
 
-  pub field-full : 1 ≤ end → end ≤ 32 → end ≡ length f → true ≡ fieldSound f
-  unfolding every
-  field-full a b h = let l : length f ≤ end = omega arith in field-rest true a b (rw (drop-of-length-le f l) refl)
-
   -- the bytes before its end are not zero, so those behind it are all zero where as many are
   pub field-counted : (zeros : ℕ) → 1 ≤ end → end ≤ 32 → zeros ≡ tally isZero f → eqb zeros (length f - end) ≡ fieldSound f
   field-counted zeros a b z =
@@ -161,4 +158,4 @@ module _ (f : List ℕ) (end : ℕ) (e : end ≡ run labelByte f) where
       let t : zeros ≡ tally isZero (drop end f) = z ∙ rw e (run-tally f) in
       field-rest (eqb zeros (length f - end)) a b (rw (t, ← n) (sym (tally-every (drop end f))))
 
-pub ruleset fields = (field-within, field-empty, field-long, field-full, field-counted)
+pub ruleset fields = (field-within, field-empty, field-long, field-counted)

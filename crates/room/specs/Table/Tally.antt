@@ -9,7 +9,7 @@ use borrow.Author.Tests.{eq-eqb, ne-eqb}
 use lib.Dec.{eqb}
 use lib.ListN.{length, getD, drop, drop-of-length-le}
 use lib.Seq.{drop-cons}
-use Rattle.catalogue.specs.Every.{every}
+use Rattle.text.specs.Every.{every}
 use Rattle.room.specs.Table.{isZero}
 
 unfoldable pub tally : (ℕ → Bool) → List ℕ → ℕ

@@ -12,7 +12,7 @@ use lib.Dec.{eqb, ltb}
 use lib.ListN.{length, getD, take, drop, length-take, length-drop, drop-of-length-le}
 use lib.Seq.{drop-cons, drop-drop}
 use Rattle.catalogue.specs.Catalogue.{known, rowsOf}
-use Rattle.catalogue.specs.Every.{both-left, both-right}
+use Rattle.text.specs.Every.{both-left, both-right}
 use Rattle.catalogue.specs.Catalogue.Laws.{rows-few}
 use Rattle.room.specs.Table.{bodyLength, bodySound, fieldSound, modules, modulesFrom, recordLimit, recordsSound, sound}
 use Rattle.room.specs.declared.table.Module.{Module}

@@ -5,10 +5,10 @@ use mathlib.Core.List.{List}
 use Prim.Native.Nat.{ℕ}
 use lib.IntN.{ℤ}
 use lib.ListN.{take}
-use Rattle.text.specs.Written.{Wrote}
-use Rattle.wire.specs.Reply.{nak}
-use Rattle.line.specs.Answer as line
-use Rattle.line.specs.Answer.{answer}
+use Rattle.written.specs.Written.{Wrote}
+use Rattle.reply.specs.Reply.{nak}
+use Rattle.answer.specs.Answer as line
+use Rattle.answer.specs.Answer.{answer}
 use Rattle.serial_port.specs.Port.{view}
 use Rattle.serial_port.specs.Call.{finish}
 use Rattle.serial_port.specs.declared.port.Port.{Port}

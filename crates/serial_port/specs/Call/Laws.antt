@@ -10,11 +10,11 @@ use lib.ListN.{length, take, drop}
 use lib.Seq.{sets, sets-eq, take-at}
 use Rattle.text.specs.Cut.{has, indexOf, before}
 use Rattle.room.specs.Table.{sound}
-use Rattle.room.specs.Values.{valuesSound}
+use Rattle.values.specs.Values.{valuesSound}
 use Rattle.line.specs.Shape.{lineLimit}
-use Rattle.wire.specs.Reply.{nak}
-use Rattle.line.specs.Answer.{answer}
-use Rattle.line.specs.Answer.Replies.{reply-limit}
+use Rattle.reply.specs.Reply.{nak}
+use Rattle.answer.specs.Answer.{answer}
+use Rattle.answer.specs.Answer.Replies.{reply-limit}
 use Rattle.serial_port.specs.Port.{View, held, over, view, Same, claim, join}
 use Rattle.serial_port.specs.Port.Laws.{claim-view, join-nothing, same-seen, seen-same}
 use Rattle.serial_port.specs.Call.{Answering, step, replied, waiting, finish, replyLimit, callNumber, call, Handed}

@@ -1,13 +1,13 @@
 -- Rules for the code of a call: its number, and the ways in which it returns.
 use mathlib.Core.Path.{_≡_, refl, sym, _∙_}
 use mathlib.Core.Bool.{Bool, true, false, not, cond}
-use mathlib.Core.List.{List, [], _∷_}
-use Prim.Native.Nat.{ℕ, suc, _+_, _≤_, _<_}
+use mathlib.Core.List.{List}
+use Prim.Native.Nat.{ℕ, _+_, _≤_, _<_}
 use native.Mathlib.Nat.{zero-add}
 use native.Mathlib.Numerals.{add-one}
 use native.Mathlib.Omega.{arith}
 use borrow.Author.Tests.{not-true, not-false, leb-true, lt-ltb, le-ltb}
-use lib.Dec.{eqb, leb}
+use lib.Dec.{leb}
 use lib.IntN.{ℤ}
 use lib.ListN.{length, take}
 use lib.Seq.{length-take-le, take-length}
@@ -15,9 +15,9 @@ use mir.Syntax.{w64}
 use mir.Val.{Fits}
 use Rattle.text.specs.Cut.{indexOf, has, before}
 use Rattle.room.specs.Table.{sound}
-use Rattle.room.specs.Values.{valuesSound}
+use Rattle.values.specs.Values.{valuesSound}
 use Rattle.line.specs.Shape.{lineLimit}
-use Rattle.line.specs.Answer.{answer}
+use Rattle.answer.specs.Answer.{answer}
 use Rattle.serial_port.specs.Port.{view, fresh}
 use Rattle.serial_port.specs.Port.Collecting.{Collects}
 use Rattle.serial_port.specs.Call.{Answers, callNumber, finish, replyLimit}
@@ -25,6 +25,7 @@ use Rattle.serial_port.specs.Call.Finishing.{Finishes}
 use Rattle.serial_port.specs.Call.Laws.{accepted}
 use Rattle.serial_port.specs.Call.Rules.{number-table, number-values, number-buffer, number-claim, returns-refused, returns-waiting, returns-finished}
 use Rattle.serial_port.specs.declared.port.Port.{Port}
+use Rattle.text.specs.Cut.Laws.{index-within}
 
 -- ---- the number
 
@@ -95,15 +96,6 @@ module _ (t : List ℕ) (vs : List ℤ) (replyRoom claimed n : ℕ) (e : n ≡ c
 pub ruleset taking = (taken-refused, taken-table, taken-values, taken-buffer, taken-claim)
 
 -- ---- a call that is served
-
-index-within : (b : ℕ) (s : List ℕ) → indexOf b s ≤ length s
-unfolding indexOf
-index-within b [] = omega arith
-index-within b (x ∷ s) = go (eqb x b) (index-within b s)
-  where
-    go : (t : Bool) → indexOf b s ≤ length s → cond t 0 (suc (indexOf b s)) ≤ suc (length s)
-    go true l = omega arith
-    go false l = omega arith
 
 module _ (bs : List ℕ) (end : ℕ) (e : end ≡ indexOf 0x0D bs) where
   pub line-part : end ≡ length (take end bs)

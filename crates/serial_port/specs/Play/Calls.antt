@@ -10,7 +10,7 @@ use lib.Seq.{sets, drop-length}
 use Rattle.text.specs.Cut.{has, indexOf, before, after}
 use Rattle.room.specs.Table.{sound}
 use Rattle.line.specs.Shape.{lineLimit}
-use Rattle.line.specs.Answer.{answer}
+use Rattle.answer.specs.Answer.{answer}
 use Rattle.serial_port.specs.Port.{view, fresh, join}
 use Rattle.serial_port.specs.Port.Laws.{claim-view, claim-join}
 use Rattle.serial_port.specs.Call.{step, finish, replied, waiting, replyLimit, tell, call, tells, Handed, Answers}

@@ -10,8 +10,8 @@ use lib.IntN.{ℤ}
 use lib.ListN.{length}
 use Rattle.text.specs.Cut.{has, indexOf, before, after}
 use Rattle.line.specs.Shape.{lineLimit}
-use Rattle.wire.specs.Reply.{nak}
-use Rattle.line.specs.Answer.{Answer}
+use Rattle.reply.specs.Reply.{nak}
+use Rattle.answer.specs.Answer.{Answer}
 use Rattle.serial_port.specs.Port.{View, fresh, claim, join}
 use Rattle.serial_port.specs.Port.Laws.{fresh-few, join-nothing, join-join, join-fresh, join-overruns, claim-join}
 use Rattle.serial_port.specs.Call.{Answering, finish}

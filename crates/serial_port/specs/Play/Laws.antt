@@ -9,10 +9,10 @@ use lib.ListN.{length, length-drop}
 use lib.Seq.{drop-length}
 use Rattle.text.specs.Cut.{has, before, after}
 use Rattle.line.specs.Shape.{lineLimit}
-use Rattle.line.specs.Answer.{answer}
-use Rattle.line.specs.Answer.Laws.{values-stay-sound}
+use Rattle.answer.specs.Answer.{answer}
+use Rattle.answer.specs.Answer.Laws.{values-stay-sound}
 use Rattle.room.specs.Table.{sound}
-use Rattle.room.specs.Values.{valuesSound}
+use Rattle.values.specs.Values.{valuesSound}
 use Rattle.serial_port.specs.Port.{View, fresh, claim, join}
 use Rattle.serial_port.specs.Port.Laws.{fresh-few, claim-join}
 use Rattle.serial_port.specs.Call.{Answering, finish, replied, waiting, replyLimit}

@@ -1,16 +1,17 @@
 -- Laws of cutting at a byte.
 use mathlib.Core.Path.{_≡_, refl, sym, _∙_, ap}
-use mathlib.Core.Bool.{Bool, true, false, cond, _&&_}
+use mathlib.Core.Bool.{Bool, true, false, cond}
 use mathlib.Core.List.{List, [], _∷_, _++_}
-use Prim.Native.Nat.{ℕ, suc, _+_, _≤_, _<_}
+use Prim.Native.Nat.{ℕ, zero, suc, _+_, _≤_, _<_}
 use native.Mathlib.Numerals.{add-one}
 use native.Mathlib.Nat.{zero-add}
 use native.Mathlib.Omega.{arith}
 use borrow.Author.Tests.{eq-eqb, ne-eqb}
 use lib.Dec.{eqb}
-use lib.ListN.{length, getD, drop, drop-of-length-le}
+use lib.ListN.{length, getD, take, drop, drop-of-length-le}
 use lib.Seq.{drop-cons}
-use Rattle.text.specs.Cut.{indexOf, every}
+use Rattle.text.specs.Cut.{indexOf}
+use Rattle.text.specs.Every.{every, every-both}
 
 at-head : (b x : ℕ) (s : List ℕ) → x ≡ b → indexOf b (x ∷ s) ≡ 0
 unfolding indexOf
@@ -51,21 +52,6 @@ pub ruleset searching = (searched-start, searched-next, searched-found, searched
 
 -- ---- a byte that is not there
 
-pub both : (a b : Bool) → a && b ≡ true → (a ≡ true) × (b ≡ true)
-both true b h = (refl, h)
-both false b h = absurd (let z : _≡_ {A = ℕ} 0 1 = cc in omega arith)
-
-pub every-both : (test : ℕ → Bool) (x : ℕ) (s : List ℕ) → every test (x ∷ s) ≡ true → (test x ≡ true) × (every test s ≡ true)
-unfolding every
-every-both test x s h = both (test x) (every test s) h
-
-pub every-append : (test : ℕ → Bool) (s t : List ℕ) → every test s ≡ true → every test t ≡ true → every test (s ++ t) ≡ true
-unfolding every
-every-append test [] t p q = q
-every-append test (x ∷ s) t p q =
-    let h = every-both test x s p in
-    rw (h .0) (every-append test s t (h .1) q)
-
 -- where every byte passes a test that b fails, b is not there
 pub index-none : (test : ℕ → Bool) (b : ℕ) (s : List ℕ) → every test s ≡ true → test b ≡ false → indexOf b s ≡ length s
 index-none test b [] h n = nothing b
@@ -84,3 +70,21 @@ index-behind b (x ∷ s) t h = go (eqb x b) refl (index-behind b s t) h
         → cond e 0 (suc (indexOf b s)) ≡ suc (length s) → cond (eqb x b) 0 (suc (indexOf b (s ++ t))) ≡ suc (length s) + indexOf b t
     go true e f h = absurd (omega arith)
     go false e f h = let i = f (omega arith) in rw e (omega arith)
+
+-- ---- a byte's place lies within the text
+
+pub index-within : (b : ℕ) (s : List ℕ) → indexOf b s ≤ length s
+unfolding indexOf
+index-within b [] = omega arith
+index-within b (x ∷ s) = either (eqb x b) (index-within b s)
+  where
+    either : (t : Bool) → indexOf b s ≤ length s → cond t 0 (suc (indexOf b s)) ≤ suc (length s)
+    either true h = omega arith
+    either false h = omega arith
+
+-- ---- a part has as many bytes as it has
+
+pub as-many : (n : ℕ) (s : List ℕ) → take (length (take n s)) s ≡ take n s
+as-many zero s = refl
+as-many (suc n) [] = refl
+as-many (suc n) (x ∷ s) = ap (λ u. x ∷ u) (as-many n s)

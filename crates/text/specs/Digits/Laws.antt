@@ -9,8 +9,8 @@ use native.Mathlib.Omega.{arith}
 use borrow.Author.Tests.{lt-ltb, le-ltb, le-leb, lt-leb, leb-true}
 use lib.Dec.{leb, ltb}
 use lib.ListN.{length, getD, length-append}
-use Rattle.text.specs.Cut.Laws.{both}
 use Rattle.text.specs.Digits.{isDigit, allDigits, digitsWithin, digits}
+use Rattle.text.specs.Every.{both, every, every-append, every-both}
 
 -- ---- one digit, and one more
 
@@ -72,7 +72,7 @@ digit-range b h =
 
 pub digit-and-rest : (b : ℕ) (s : List ℕ) → allDigits (b ∷ s) ≡ true → (isDigit b ≡ true) × (allDigits s ≡ true)
 unfolding allDigits
-digit-and-rest b s h = both (isDigit b) (allDigits s) h
+digit-and-rest b s h = every-both isDigit b s h
 
 -- every byte of digits is from 48 to 57
 pub digit-at : (s : List ℕ) (i : ℕ) → allDigits s ≡ true → i < length s → (48 ≤ getD s i 0) × (getD s i 0 ≤ 57)
@@ -82,13 +82,10 @@ digit-at (b ∷ s) (suc i) h l = digit-at s i (digit-and-rest b s h .1) (omega a
 
 pub all-digits-append : (s t : List ℕ) → allDigits s ≡ true → allDigits t ≡ true → allDigits (s ++ t) ≡ true
 unfolding allDigits
-all-digits-append [] t p q = q
-all-digits-append (b ∷ s) t p q =
-    let h = digit-and-rest b s p in
-    rw (h .0) (all-digits-append s t (h .1) q)
+all-digits-append s t p q = every-append isDigit s t p q
 
 digit-alone : (b : ℕ) → 48 ≤ b → b ≤ 57 → allDigits (b ∷ []) ≡ true
-unfolding allDigits
+unfolding allDigits every
 digit-alone b p q = rw (is-digit b p q)
 
 pub digits-are-digits : (n : ℕ) → allDigits (digits n) ≡ true
@@ -114,8 +111,11 @@ high-test b h = rw (le-leb 48 b h)
 pub digit-low : (b : ℕ) → isDigit b ≡ true → 48 ≤ b
 digit-low b h = digit-range b h .0
 
+pub digit-high : (b : ℕ) → isDigit b ≡ true → b ≤ 57
+digit-high b h = digit-range b h .1
+
 -- what a callee said of a flag, and which way the flag went
 pub flag-told : (t u v : Bool) → t ≡ u → t ≡ v → u ≡ v
 flag-told t u v p q = sym p ∙ q
 
-pub ruleset digit-bytes = (low-byte, high-test, digit-low, flag-told)
+pub ruleset digit-bytes = (low-byte, high-test, digit-low, digit-high, flag-told)

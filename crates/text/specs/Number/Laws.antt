@@ -8,12 +8,12 @@ use native.Mathlib.Omega.{arith}
 use borrow.Author.Tests.{le-leb, leb-true}
 use lib.Dec.{leb}
 use lib.ListN.{length}
-use Rattle.text.specs.Cut.Laws.{both}
 use Rattle.text.specs.Digits.{allDigits, numberOf, digits}
 use Rattle.text.specs.Digits.Laws.{digits-are-digits, some-digits}
 use Rattle.text.specs.Digits.Value.{digits-say, number-bound, digits-short, digits-shortest}
 use Rattle.text.specs.Number.{numberForm, readNumber}
 use Rattle.text.specs.declared.number.Number.the-variants.{Value, Wrong}
+use Rattle.text.specs.Every.{both}
 
 -- s is one to `width` digits that say n
 pub record NumberText (width : ℕ) (s : List ℕ) (n : ℕ) : Type 0 where

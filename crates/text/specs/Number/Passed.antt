@@ -17,6 +17,7 @@ use Rattle.text.specs.Digits.Laws.{digit-range}
 use Rattle.text.specs.Number.{numberForm, readNumber}
 use Rattle.text.specs.Number.Laws.{number-form, number-read}
 use Rattle.text.specs.declared.number.Number.the-variants.{Value, Wrong}
+use Rattle.text.specs.Every.{every}
 
 -- i digits of s are passed, and say n
 pub record Passed (width : ℕ) (s : List ℕ) (n i : ℕ) : Type 0 where
@@ -46,7 +47,7 @@ passed-start width s o h =
 
 module _ (width : ℕ) (s : List ℕ) (n i : ℕ) (t : Bool) (p : Passed width s n i) (l : i < length s) (e : t ≡ isDigit (getD s i 0)) where
   pub passed-next : (d : ℕ) → t ≡ true → d ≡ getD s i 0 - 48 → Passed width s (n * 10 + d) (i + 1)
-  unfolding allDigits readOn
+  unfolding allDigits every readOn
   passed-next d y q =
       let r = digit-range (getD s i 0) (sym e ∙ y) in
       let f : drop i s ≡ getD s i 0 ∷ drop (i + 1) s = rw (add-one, drop-cons s i 0) in
@@ -60,13 +61,13 @@ module _ (width : ℕ) (s : List ℕ) (n i : ℕ) (t : Bool) (p : Passed width s
       }
 
   pub wrong-byte : t ≡ false → Wrong ≡ readNumber width s
-  unfolding readNumber allDigits
+  unfolding readNumber allDigits every
   wrong-byte y =
       let f : drop i s ≡ getD s i 0 ∷ drop (i + 1) s = rw (add-one, drop-cons s i 0) in
       rw (number-form width s (p .some) (p .fits), p .digits-left, f, ← e, y)
 
 pub all-passed : (width : ℕ) (s : List ℕ) (n i : ℕ) → Passed width s n i → length s ≤ i → Value n ≡ readNumber width s
-unfolding allDigits readOn
+unfolding allDigits every readOn
 all-passed width s n i p l =
     sym (number-read width s n
     (record {

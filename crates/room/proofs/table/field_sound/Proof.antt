@@ -11,7 +11,6 @@ field-sound-spec =
     (λ c κs. search (fields, needs))
     (λ c. search (fields, needs))
     (λ c. search (fields, needs))
-    (λ c. search (fields, needs))
     (λ c κs. search (fields, needs))
     (λ c. search (fields, needs))
     (λ c. search (fields, needs)))

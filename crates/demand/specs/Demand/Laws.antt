@@ -1,0 +1,145 @@
+-- Demand 3 holds. The list fulfils the wish, as each of its lines sets its parameter; and no sequence that does is shorter, as no line
+-- lowers the price of what is left by more than its bytes. A parameter beyond reach stays as it is, whatever is played.
+use mathlib.Core.Path.{_≡_, refl, sym, _∙_, ap}
+use mathlib.Core.Bool.{Bool, true, false, cond}
+use mathlib.Core.List.{List}
+use Prim.Native.Nat.{ℕ, _≤_}
+use native.Mathlib.Omega.{arith}
+use borrow.Author.Tests.{leb-true, leb-false}
+use lib.Dec.{leb}
+use lib.IntN.{pos}
+use lib.ListN.{length, getD}
+use Rattle.room.specs.Table.{sound}
+use Rattle.parameter.specs.Parameters.{parameters}
+use Rattle.values.specs.Values.{valuesSound}
+use Rattle.answer.specs.Answer.{answer}
+use Rattle.serial_port.specs.Port.{fresh}
+use Rattle.serial_port.specs.Port.Laws.{fresh-few}
+use Rattle.serial_port.specs.Call.{replyLimit}
+use Rattle.serial_port.specs.Call.Laws.{written-first}
+use Rattle.serial_port.specs.Play.{play, feed}
+use Rattle.serial_port.specs.Play.Kept.{feed-keeps, bound}
+use Rattle.serial_port.specs.Play.Laws.{Right, keeps-right, plays}
+use Rattle.wish.specs.Target.{Wish, selectionRight, wantedRight, target}
+use Rattle.wish.specs.Target.Laws.{target-right}
+use Rattle.demand.specs.Lines.{Lines}
+use Rattle.demand.specs.Lines.Promise.{promise}
+use Rattle.demand.specs.Lines.Reach.{Stays, keeps-unreachable}
+use Rattle.demand.specs.Lines.Price.{potential, lowers, price-reached, price-listing}
+use Rattle.demand.specs.Listing.{changes, listing, allReachable, listNumber, restoreNumber, tell, restore}
+use Rattle.demand.specs.Listing.Beyond.{beyond}
+use Rattle.demand.specs.Listing.Numbers.{number-list}
+use Rattle.demand.specs.Listing.Counted.{lines-differing}
+use Rattle.demand.specs.Listing.Played.{all-sayable, from-start, done, play-listing}
+use Rattle.demand.specs.Demand.{Admitted, Fulfils, Shortest, Listed, Demanded, accepted, unreachable, no-room, DemandThree, tells, Restores}
+use Rattle.demand.specs.declared.Restored.{Restored}
+use Rattle.values.specs.Values.Laws.{values-many, values-each}
+
+-- the list of a wish
+unfoldable pub list : Wish → List ℕ
+list w = listing (w .table) (changes w)
+
+module _ (w : Wish) (lines : Lines (w .table)) (admitted : Admitted w) (replyRoom : ℕ) (enough : replyLimit ≤ replyRoom) where
+  played : (bs : List ℕ) → play (w .table) replyRoom (w .present) bs ≡ feed (answer (w .table)) fresh (w .present) bs
+  played bs = plays (w .table) (admitted .table) replyRoom enough (w .present) bs (admitted .present)
+
+  target-is-right : Right (w .table) (target w)
+  target-is-right = target-right w (admitted .present) (admitted .wanted)
+
+  -- ---- no sequence that fulfils the wish is shorter than the list
+
+  ends-at : (bs : List ℕ) → Fulfils w replyRoom bs → feed (answer (w .table)) fresh (w .present) bs .values ≡ target w
+  ends-at bs f = ap (λ p. p .values) (sym (played bs)) ∙ f .reached
+
+  least : (bs : List ℕ) → Fulfils w replyRoom bs → length (list w) ≤ length bs
+  unfolding list changes
+  least bs f =
+      let t = w .table in
+      let kept = keeps-right t (admitted .table) in
+      let b = bound (answer t) (Right t) kept (potential t (target w)) (lowers t lines (target w)) (w .present) bs (admitted .present) in
+      let e : potential t (target w) (feed (answer t) fresh (w .present) bs .values) ≡ 0 = rw (ends-at bs f) (price-reached t (parameters t) (target w)) in
+      omega (arith, b, e, price-listing t (parameters t) (w .present) (target w))
+
+  -- ---- where no change is beyond reach, the list fulfils the wish
+
+  listed : allReachable (w .table) (changes w) ≡ true → play (w .table) replyRoom (w .present) (list w) ≡ done (length (changes w)) (target w)
+  unfolding list changes
+  listed r =
+      let t = w .table in
+      played (list w)
+      ∙ play-listing t lines (w .present) (target w) (values-many t (w .present) (admitted .present)) (values-many t (target w) target-is-right)
+      (all-sayable t lines 0 (parameters t) (w .present) (target w) (from-start t) (values-each t (target w) target-is-right) r)
+
+  shortest : allReachable (w .table) (changes w) ≡ true → Shortest w replyRoom (list w)
+  shortest r =
+      record {
+        fulfils =
+            record {
+              served = ap (λ p. p .refused) (listed r) ∙ unfold done in refl;
+              reached = ap (λ p. p .values) (listed r) ∙ unfold done in refl;
+            };
+        least = least;
+      }
+
+  -- ---- where one is, no byte sequence does: its value stays as it is
+
+  none : allReachable (w .table) (changes w) ≡ false → (bs : List ℕ) → Fulfils w replyRoom bs → ⊥
+  unfolding changes
+  none r bs f =
+      let t = w .table in
+      let b = beyond t (parameters t) (w .present) (target w) r in
+      let v = getD (w .present) (b .number) (pos 0) in
+      let kept = keeps-unreachable t lines (b .number) (b .parameter) v (b .found) (b .blocked) in
+      let stays = feed-keeps (answer t) (Stays (b .number) v) kept fresh (w .present) bs fresh-few refl in
+      b .differs (sym stays ∙ ap (λ vs. getD vs (b .number) (pos 0)) (ends-at bs f))
+
+  -- ---- the answer
+
+  lists : (buffer : List ℕ) → length (list w) ≤ length buffer → allReachable (w .table) (changes w) ≡ true
+      → Listed w replyRoom (length buffer) (tell (w .table) 0 buffer (changes w))
+  unfolding tell list changes
+  lists buffer h r =
+      record {
+        shortest = rw (written-first buffer (list w) h) (shortest r);
+        bytes = rw (written-first buffer (list w) h) refl;
+        fits = h;
+        acknowledged = rw (written-first buffer (list w) h) (ap (λ p. p .replies) (listed r) ∙ unfold done in refl);
+        ends = rw (written-first buffer (list w) h) (ap (λ p. p .port) (listed r) ∙ unfold done in refl);
+        lines = unfold target in lines-differing (w .selection) (parameters (w .table)) (w .present) (w .wanted);
+      }
+
+  pub demanded : (buffer : List ℕ) → Demanded w replyRoom (length buffer) (restore w buffer)
+  unfolding restore listNumber list
+  demanded buffer =
+      rw (number-list w (length buffer) (admitted .table) (admitted .present) (admitted .selection) (admitted .wanted))
+      (go (allReachable (w .table) (changes w)) (leb (length (list w)) (length buffer)) refl refl)
+    where
+      go : (r n : Bool) → allReachable (w .table) (changes w) ≡ r → leb (length (list w)) (length buffer) ≡ n
+          → Demanded w replyRoom (length buffer) (tell (w .table) (cond r (cond n 0 8) 7) buffer (changes w))
+      go false n r e = unreachable (unfold tell in refl) (none r)
+      go true false r e = no-room (unfold tell in refl) (list w) (shortest r) (leb-false (length (list w)) (length buffer) e)
+      go true true r e = accepted (unfold tell in refl) (lists buffer (leb-true (length (list w)) (length buffer) e) r)
+
+-- the whole of it, over the promise that the line layer keeps
+pub demand-three : (w : Wish) (buffer : List ℕ) → DemandThree w (length buffer) (restore w buffer)
+demand-three w buffer admitted replyRoom enough = demanded w (promise (w .table) (admitted .table)) admitted replyRoom enough buffer
+
+-- so the restore call's promise is kept once it tells and writes what it should
+pub restores : (w : Wish) (buffer : List ℕ) (r : Restored) (buffer′ : List ℕ) → tells r buffer′ ≡ restore w buffer → Restores w buffer r buffer′
+restores w buffer r buffer′ e = record { told = e; demand = rw e (demand-three w buffer) }
+
+-- a call that is refused with none of 1, 2, 5 and 6
+pub admitted-late : (w : Wish) (room : ℕ) → (restoreNumber w room ≡ 1 → ⊥) → (restoreNumber w room ≡ 2 → ⊥) → (restoreNumber w room ≡ 5 → ⊥)
+    → (restoreNumber w room ≡ 6 → ⊥) → Admitted w
+unfolding restoreNumber
+admitted-late w room not-one not-two not-five not-six =
+    go (sound (w .table)) (valuesSound (w .table) (w .present)) (selectionRight (w .table) (w .selection))
+    (wantedRight (w .table) (w .selection) (w .wanted)) refl refl refl refl
+  where
+    go : (a b c d : Bool) → sound (w .table) ≡ a → valuesSound (w .table) (w .present) ≡ b → selectionRight (w .table) (w .selection) ≡ c
+        → wantedRight (w .table) (w .selection) (w .wanted) ≡ d → Admitted w
+    go false b c d e f g h = absurd (not-one (rw e refl))
+    go true false c d e f g h = absurd (not-two (rw (e, f) refl))
+    go true true false d e f g h = absurd (not-five (rw (e, f, g) refl))
+    go true true true false e f g h = absurd (not-six (rw (e, f, g, h) refl))
+    go true true true true e f g h = record { table = e; present = f; selection = g; wanted = h }

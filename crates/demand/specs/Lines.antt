@@ -1,0 +1,52 @@
+-- What the restore list rests on: the promise of the line layer over a table, as one record.
+pub mod Owner
+pub mod Price
+pub mod Promise
+pub mod Reach
+use mathlib.Core.Path.{_≡_}
+use mathlib.Core.Bool.{true, false, cond}
+use mathlib.Core.List.{List}
+use Prim.Native.Nat.{ℕ, suc, _+_, _≤_}
+use lib.IntN.{ℤ, pos}
+use lib.ListN.{length, getD, set}
+use Rattle.text.specs.Cut.{has}
+use Rattle.row.specs.Row.{permitted}
+use Rattle.label.specs.Label.{label, bearer}
+use Rattle.parameter.specs.Parameters.{parameters, place, parameterAt}
+use Rattle.parameter.specs.declared.Parameter.{Parameter}
+use Rattle.parameter.specs.declared.ParameterFound.the-variants.{At}
+use Rattle.label.specs.declared.Bearer.the-variants.{Only}
+use Rattle.line.specs.Shape.{lineLimit}
+use Rattle.reply.specs.Reply.{ack}
+use Rattle.answer.specs.Answer.{answer}
+use Rattle.say.specs.Say.{say}
+use Rattle.values.specs.Values.{equal}
+
+-- a parameter of the table that a line can set: its row may be set, and its module alone bears its label
+pub record Settable (t : List ℕ) (p : Parameter) : Type 0 where
+  pub listed : parameterAt (parameters t) (place p) ≡ At p
+  pub settable : p .row .settable ≡ true
+  pub only : bearer t (label t (p .owner)) ≡ Only (p .owner)
+
+-- what it costs to take the parameter p from v to x: nothing where it is there, else a set line with its 0D
+unfoldable pub price : (table : List ℕ) → Parameter → (target present : ℤ) → ℕ
+price t p x v = cond (equal v x) 0 (suc (length (say t p v x)))
+
+-- what a line of any bytes does to the values: nothing, or it sets one parameter that lines can set; to whatever target
+-- the parameter is to come, the line and its 0D are at least as long as what they spare
+pub data Effect (t : List ℕ) (vs : List ℤ) (l : List ℕ) : Type 0 where
+  nothing : answer t vs l .values ≡ vs → Effect t vs l
+  puts : (p : Parameter) (x : ℤ) → Settable t p → answer t vs l .values ≡ set vs (place p) x
+      → ((target : ℤ) → price t p target (getD vs (place p) (pos 0)) ≤ length l + 1 + price t p target x) → Effect t vs l
+
+-- the set line that is written is one line, fits the port, is acknowledged and sets its parameter
+pub record Said (t : List ℕ) (p : Parameter) (x : ℤ) (l : List ℕ) : Type 0 where
+  pub whole : has 0x0D l ≡ false
+  pub fits : length l ≤ lineLimit
+  pub answered : (vs : List ℤ) → answer t vs l ≡ record { reply = ack; values = set vs (place p) x }
+
+-- each parameter stands at its place, each line has an effect as above, and set lines are said so
+pub record Lines (t : List ℕ) : Type 0 where
+  pub placed : (k : ℕ) (p : Parameter) → parameterAt (parameters t) k ≡ At p → place p ≡ k
+  pub effect : (vs : List ℤ) (l : List ℕ) → Effect t vs l
+  pub says : (p : Parameter) (v x : ℤ) → Settable t p → permitted (p .row) x ≡ true → Said t p x (say t p v x)

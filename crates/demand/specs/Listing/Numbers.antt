@@ -1,0 +1,49 @@
+-- When the restore call refuses, and with which number: one rule for each.
+use mathlib.Core.Path.{_≡_, refl}
+use mathlib.Core.Bool.{true, false}
+use Prim.Native.Nat.{ℕ, _≤_, _<_}
+use borrow.Author.Tests.{le-leb, lt-leb}
+use lib.ListN.{length}
+use Rattle.room.specs.Table.{sound}
+use Rattle.values.specs.Values.{valuesSound}
+use Rattle.wish.specs.Target.{Wish, selectionRight, wantedRight}
+use Rattle.demand.specs.Listing.{changes, listing, allReachable, listNumber, restoreNumber}
+
+module _ (w : Wish) (room : ℕ) where
+  pub number-table : sound (w .table) ≡ false → restoreNumber w room ≡ 1
+  unfolding restoreNumber
+  number-table a = rw a refl
+
+  pub number-present : sound (w .table) ≡ true → valuesSound (w .table) (w .present) ≡ false → restoreNumber w room ≡ 2
+  unfolding restoreNumber
+  number-present a b = rw (a, b) refl
+
+  pub number-selection : sound (w .table) ≡ true → valuesSound (w .table) (w .present) ≡ true → selectionRight (w .table) (w .selection) ≡ false
+      → restoreNumber w room ≡ 5
+  unfolding restoreNumber
+  number-selection a b c = rw (a, b, c) refl
+
+  pub number-wanted : sound (w .table) ≡ true → valuesSound (w .table) (w .present) ≡ true → selectionRight (w .table) (w .selection) ≡ true
+      → wantedRight (w .table) (w .selection) (w .wanted) ≡ false → restoreNumber w room ≡ 6
+  unfolding restoreNumber
+  number-wanted a b c d = rw (a, b, c, d) refl
+
+  -- none of these applies
+  pub number-list : sound (w .table) ≡ true → valuesSound (w .table) (w .present) ≡ true → selectionRight (w .table) (w .selection) ≡ true
+      → wantedRight (w .table) (w .selection) (w .wanted) ≡ true → restoreNumber w room ≡ listNumber (w .table) room (changes w)
+  unfolding restoreNumber
+  number-list a b c d = rw (a, b, c, d) refl
+
+  pub list-unreachable : allReachable (w .table) (changes w) ≡ false → listNumber (w .table) room (changes w) ≡ 7
+  unfolding listNumber
+  list-unreachable r = rw r refl
+
+  pub list-long : allReachable (w .table) (changes w) ≡ true → room < length (listing (w .table) (changes w))
+      → listNumber (w .table) room (changes w) ≡ 8
+  unfolding listNumber
+  list-long r h = rw (r, lt-leb (length (listing (w .table) (changes w))) room h) refl
+
+  pub list-fits : allReachable (w .table) (changes w) ≡ true → length (listing (w .table) (changes w)) ≤ room
+      → listNumber (w .table) room (changes w) ≡ 0
+  unfolding listNumber
+  list-fits r h = rw (r, le-leb (length (listing (w .table) (changes w))) room h) refl

@@ -1,0 +1,2 @@
+-- Labels: the one module that bears a text.
+pub mod Label

@@ -1,0 +1,2 @@
+-- How long a text will be.
+pub mod Measuring

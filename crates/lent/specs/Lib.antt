@@ -1,0 +1,3 @@
+-- What C lends: the port as bytes, and the numbers that are told.
+pub mod Told
+pub mod Port

@@ -1,0 +1,2 @@
+-- The restore list as it is written.
+pub mod Writing

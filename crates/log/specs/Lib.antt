@@ -1,0 +1,2 @@
+-- The part of a line or of the table that the log shows.
+pub mod Log

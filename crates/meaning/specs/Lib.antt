@@ -1,0 +1,2 @@
+-- What a line means in a room.
+pub mod Meaning

@@ -1,0 +1,2 @@
+-- How a line names a parameter.
+pub mod Name

@@ -1,0 +1,2 @@
+-- Parameters: number k, its module and its row, both ways.
+pub mod Parameters

@@ -1,0 +1,2 @@
+-- The replies.
+pub mod Reply

@@ -1,0 +1,91 @@
+-- How replies are written: a rule for each return and each call of their writers.
+use mathlib.Core.Path.{_≡_}
+use mathlib.Core.List.{List, [], _∷_, _++_, append-assoc}
+use Prim.Native.Nat.{ℕ, _+_, _/_, _%_, _≤_}
+use native.Mathlib.Omega.{arith}
+use lib.IntN.{ℤ, natAbs}
+use lib.ListN.{length, length-append}
+use mir.Syntax.{w64}
+use mir.Val.{SFits}
+use mir.Facts.{toZ-ofZ}
+use Rattle.text.specs.Digits.{digits}
+use Rattle.level.specs.Level.{oneDecimalText}
+use Rattle.level.specs.Level.Sign.{kept}
+use Rattle.text.specs.Switch.{switchText}
+use Rattle.written.specs.Written.{Wrote}
+use Rattle.written.specs.Written.Laws.{wrote-join}
+use Rattle.written.specs.Written.Writing.{room-first}
+use Rattle.row.specs.declared.Kind.{Kind}
+use Rattle.row.specs.declared.Kind.the-variants as kind
+use Rattle.parameter.specs.declared.Parameter.{Parameter}
+use Rattle.reply.specs.Reply.{ack, nak, replyText, getReply}
+use Rattle.name.specs.Name.Writing.{front, same-front, room-middle, room-third}
+
+-- ---- ACK and NAK
+
+pub wrote-ack : (l : List ℕ) (r : ℕ) (m : List ℕ) → Wrote l 0 (0x06 ∷ 0x0D ∷ []) r m → Wrote l 0 ack r m
+unfolding ack
+wrote-ack l r m w = w
+
+pub wrote-nak : (l : List ℕ) (code r : ℕ) (m : List ℕ) → Wrote l 0 (0x15 ∷ (48 + code / 10) ∷ (48 + code % 10) ∷ 0x0D ∷ []) r m → Wrote l 0 (nak code) r m
+unfolding nak
+wrote-nak l code r m w = w
+
+-- ---- a value, by its kind; a callee is handed it as the code keeps it
+
+module _ (k : Kind) (v : ℤ) (at : ℕ) (f : SFits w64 v) where
+  pub told-level-room : (long : ℕ) → k ≡ kind.Level → at + length (replyText k v) ≤ long → at + length (oneDecimalText (kept v)) ≤ long
+  unfolding replyText
+  told-level-room long e h = rw (toZ-ofZ f) (rw e at h)
+
+  pub told-switch-room : (size long : ℕ) → k ≡ kind.Switch → size ≡ natAbs (kept v) → at + length (replyText k v) ≤ long → at + length (switchText size) ≤ long
+  unfolding replyText
+  told-switch-room size long e s h = rw (s, toZ-ofZ f) (rw e at h)
+
+  pub told-number-room : (size long : ℕ) → k ≡ kind.Number → size ≡ natAbs (kept v) → at + length (replyText k v) ≤ long → at + length (digits size) ≤ long
+  unfolding replyText
+  told-number-room size long e s h = rw (s, toZ-ofZ f) (rw e at h)
+
+  pub told-level : (r : ℕ) (l m : List ℕ) → k ≡ kind.Level → Wrote l at (oneDecimalText (kept v)) r m → Wrote l at (replyText k v) r m
+  unfolding replyText
+  told-level r l m e w = rw e (rw (toZ-ofZ f) at w)
+
+  pub told-switch : (size r : ℕ) (l m : List ℕ) → k ≡ kind.Switch → size ≡ natAbs (kept v) → Wrote l at (switchText size) r m
+      → Wrote l at (replyText k v) r m
+  unfolding replyText
+  told-switch size r l m e s w = rw e (rw (s, toZ-ofZ f) at w)
+
+  pub told-number : (size r : ℕ) (l m : List ℕ) → k ≡ kind.Number → size ≡ natAbs (kept v) → Wrote l at (digits size) r m → Wrote l at (replyText k v) r m
+  unfolding replyText
+  told-number size r l m e s w = rw e (rw (s, toZ-ofZ f) at w)
+
+pub ruleset telling = (told-level-room, told-switch-room, told-number-room, told-level, told-switch, told-number)
+
+-- ---- the answer to a get line
+
+get-parts : (t : List ℕ) (p : Parameter) (v : ℤ) → getReply t p v ≡ front 0x47 t p ++ (replyText (p .row .kind) v ++ (0x0D ∷ []))
+unfolding getReply front
+get-parts t p v = simp append-assoc
+
+module _ (t : List ℕ) (p : Parameter) (v : ℤ) (l : List ℕ) (verb : ℕ) (f : SFits w64 v) (room : length (getReply t p v) ≤ length l) where
+  get-room : 0 + length (front verb t p ++ (replyText (p .row .kind) v ++ (0x0D ∷ []))) ≤ length l
+  get-room =
+      let h = rw (get-parts t p v, length-append (front 0x47 t p)) at room in
+      simp (length-append (front verb t p), same-front verb 0x47 t p) (omega arith)
+
+  pub get-first : length (front verb t p) ≤ length l
+  get-first =
+      let h = room-first (front verb t p) (replyText (p .row .kind) v ++ (0x0D ∷ [])) 0 (length l) get-room in
+      omega arith
+
+  pub get-second : (j : ℕ) (m : List ℕ) → Wrote l 0 (front verb t p) j m → j + length (replyText (p .row .kind) (kept v)) ≤ length m
+  get-second j m w = rw (toZ-ofZ f) (room-middle (front verb t p) (replyText (p .row .kind) v) (0x0D ∷ []) l 0 j m get-room w)
+
+  pub get-third : (j i : ℕ) (m n : List ℕ) → Wrote l 0 (front verb t p) j m → Wrote m j (replyText (p .row .kind) (kept v)) i n → i + 1 ≤ length n
+  get-third j i m n u w = room-third (front verb t p) (replyText (p .row .kind) v) (0x0D ∷ []) l 0 j i m n get-room u (rw (toZ-ofZ f) at w)
+
+pub wrote-get : (t : List ℕ) (p : Parameter) (v : ℤ) (l : List ℕ) (j i r : ℕ) (m n k : List ℕ) → SFits w64 v → Wrote l 0 (front 0x47 t p) j m
+    → Wrote m j (replyText (p .row .kind) (kept v)) i n → Wrote n i (0x0D ∷ []) r k → Wrote l 0 (getReply t p v) r k
+wrote-get t p v l j i r m n k f a b c = rw (get-parts t p v) (wrote-join a (wrote-join (rw (toZ-ofZ f) at b) c))
+
+pub ruleset get-writing = (get-first, get-second, get-third, wrote-get)

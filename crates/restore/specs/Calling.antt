@@ -1,0 +1,69 @@
+-- How the restore call answers: a rule for each return and each call.
+use mathlib.Core.Path.{_≡_, sym, _∙_}
+use mathlib.Core.Bool.{true}
+use mathlib.Core.List.{List}
+use Prim.Native.Nat.{ℕ, _≤_, _<_}
+use native.Mathlib.Omega.{arith}
+use lib.IntN.{ℤ}
+use lib.ListN.{length}
+use Rattle.written.specs.Written.{Wrote}
+use Rattle.demand.specs.Listing.{allReachable, changes, listNumber, listing, restoreNumber}
+use Rattle.demand.specs.Listing.Numbers.{list-fits, list-long, list-unreachable, number-list}
+use Rattle.demand.specs.Demand.{Admitted, Restores}
+use Rattle.restore.specs.Testing.{test-admits, test-refuses, testNumber}
+use Rattle.demand.specs.Demand.Rules.{returns-listed, returns-refused}
+use Rattle.measure.specs.Measuring.{measured}
+use Rattle.measure.specs.Measuring.Told.{beyond-told, within-told}
+use Rattle.measure.specs.Measuring.Walk.{wishOf}
+use Rattle.measure.specs.declared.Measured.{Measured}
+use Rattle.measure.specs.declared.Measured.the-variants.{Within, Beyond}
+use Rattle.demand.specs.declared.Restored.{Restored}
+
+module _ (t : List ℕ) (vs : List ℤ) (selection : List ℕ) (ws : List ℤ) (buffer : List ℕ) where
+  refuses : (r : Restored) (n : ℕ) → r ≡ record { bytes = 0; lines = 0; number = n } → restoreNumber (wishOf t vs selection ws) (length buffer) ≡ n → (n ≡ 0 → ⊥)
+      → Restores (wishOf t vs selection ws) buffer r buffer
+  refuses r n e h z = rw e (returns-refused (wishOf t vs selection ws) buffer n h z)
+
+  -- ---- a list that the wish admits
+
+  module _ (a : Admitted (wishOf t vs selection ws)) (f : Measured) (g : f ≡ measured t (changes (wishOf t vs selection ws))) where
+    listed : restoreNumber (wishOf t vs selection ws) (length buffer) ≡ listNumber t (length buffer) (changes (wishOf t vs selection ws))
+    listed = number-list (wishOf t vs selection ws) (length buffer) (a .table) (a .present) (a .selection) (a .wanted)
+
+    pub refuses-reach : (r : Restored) → f ≡ Beyond → r ≡ record { bytes = 0; lines = 0; number = 7 } → Restores (wishOf t vs selection ws) buffer r buffer
+    refuses-reach r e k =
+        let h = beyond-told t (changes (wishOf t vs selection ws)) (sym e ∙ g) in
+        refuses r 7 k (listed ∙ list-unreachable (wishOf t vs selection ws) (length buffer) h) (λ z. omega arith)
+
+    module _ (bytes lines : ℕ) (e : f ≡ Within bytes lines) where
+      told : (allReachable t (changes (wishOf t vs selection ws)) ≡ true) × (bytes ≡ length (listing t (changes (wishOf t vs selection ws)))) × (lines ≡ length (changes (wishOf t vs selection ws)))
+      told = within-told t (changes (wishOf t vs selection ws)) bytes lines (sym e ∙ g)
+
+      pub refuses-room : (r : Restored) → length buffer < bytes → r ≡ record { bytes = 0; lines = 0; number = 8 } → Restores (wishOf t vs selection ws) buffer r buffer
+      refuses-room r h k =
+          let u = told in
+          refuses r 8 k (listed ∙ list-long (wishOf t vs selection ws) (length buffer) (u .0) (omega (arith, u .1))) (λ z. omega arith)
+
+      pub list-room : bytes ≤ length buffer → length (listing t (changes (wishOf t vs selection ws))) ≤ length buffer
+      list-room h = omega (arith, told .1)
+
+      pub returns-list : (n : ℕ) (after : List ℕ) → bytes ≤ length buffer → Wrote buffer 0 (listing t (changes (wishOf t vs selection ws))) n after
+          → Restores (wishOf t vs selection ws) buffer (record { bytes = bytes; lines = lines; number = 0 }) after
+      returns-list n after h w =
+          let u = told in
+          returns-listed (wishOf t vs selection ws) buffer bytes lines after (listed ∙ list-fits (wishOf t vs selection ws) (length buffer) (u .0) (list-room h)) (u .1) (u .2) (w .bytes)
+
+  -- ---- a wish that it does not admit
+
+  module _ (n : ℕ) (e : n ≡ testNumber (wishOf t vs selection ws)) where
+    pub refuses-test : (r : Restored) → (n ≡ 0 → ⊥) → r ≡ record { bytes = 0; lines = 0; number = n } → Restores (wishOf t vs selection ws) buffer r buffer
+    refuses-test r h k = refuses r n k (test-refuses (wishOf t vs selection ws) (length buffer) (λ z. h (e ∙ z)) ∙ sym e) h
+
+-- every test was passed
+pub admits : (t : List ℕ) (vs : List ℤ) (selection : List ℕ) (ws : List ℤ) (n : ℕ) → n ≡ testNumber (wishOf t vs selection ws) → n ≡ 0
+    → Admitted (wishOf t vs selection ws)
+admits t vs selection ws n e h = test-admits (wishOf t vs selection ws) (sym e ∙ h)
+
+pub ruleset listing-call = (refuses-reach, refuses-room, list-room, returns-list)
+
+pub ruleset testing-call = (refuses-test, admits)

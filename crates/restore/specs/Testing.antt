@@ -1,0 +1,87 @@
+-- The tests that come before the list: their numbers, lowest first, and 0 where every test is passed.
+use mathlib.Core.Path.{_≡_, refl, sym, _∙_}
+use mathlib.Core.Bool.{Bool, true, false, cond, not}
+use mathlib.Core.List.{List}
+use Prim.Native.Nat.{ℕ}
+use native.Mathlib.Omega.{arith}
+use borrow.Author.Tests.{not-false, not-true}
+use lib.IntN.{ℤ}
+use Rattle.room.specs.Table.{sound}
+use Rattle.values.specs.Values.{valuesSound}
+use Rattle.wish.specs.Target.{Wish, selectionRight, wantedRight}
+use Rattle.demand.specs.Listing.{restoreNumber}
+use Rattle.demand.specs.Demand.{Admitted}
+use Rattle.measure.specs.Measuring.Walk.{wishOf}
+
+-- 5 the selection is wrong, 6 the wanted list is wrong
+unfoldable pub wishNumber : (table selection : List ℕ) → (wanted : List ℤ) → ℕ
+wishNumber t selection ws = cond (selectionRight t selection) (cond (wantedRight t selection ws) 0 6) 5
+
+-- 1 the table is not sound, 2 the values are wrong
+unfoldable pub testNumber : Wish → ℕ
+testNumber w = cond (sound (w .table)) (cond (valuesSound (w .table) (w .present)) (wishNumber (w .table) (w .selection) (w .wanted)) 2) 1
+
+pub test-admits : (w : Wish) → testNumber w ≡ 0 → Admitted w
+unfolding testNumber wishNumber
+test-admits w h =
+    go (sound (w .table)) (valuesSound (w .table) (w .present)) (selectionRight (w .table) (w .selection))
+    (wantedRight (w .table) (w .selection) (w .wanted)) refl refl refl refl
+  where
+    go : (a b c d : Bool) → sound (w .table) ≡ a → valuesSound (w .table) (w .present) ≡ b → selectionRight (w .table) (w .selection) ≡ c
+        → wantedRight (w .table) (w .selection) (w .wanted) ≡ d → Admitted w
+    go false b c d e f g i = absurd (let z : _≡_ {A = ℕ} 1 0 = rw e at h in omega arith)
+    go true false c d e f g i = absurd (let z : _≡_ {A = ℕ} 2 0 = rw (e, f) at h in omega arith)
+    go true true false d e f g i = absurd (let z : _≡_ {A = ℕ} 5 0 = rw (e, f, g) at h in omega arith)
+    go true true true false e f g i = absurd (let z : _≡_ {A = ℕ} 6 0 = rw (e, f, g, i) at h in omega arith)
+    go true true true true e f g i = record { table = e; present = f; selection = g; wanted = i }
+
+-- a test that fails gives the call its number
+pub test-refuses : (w : Wish) (room : ℕ) → (testNumber w ≡ 0 → ⊥) → restoreNumber w room ≡ testNumber w
+unfolding testNumber wishNumber restoreNumber
+test-refuses w room h =
+    go (sound (w .table)) (valuesSound (w .table) (w .present)) (selectionRight (w .table) (w .selection))
+    (wantedRight (w .table) (w .selection) (w .wanted)) refl refl refl refl
+  where
+    go : (a b c d : Bool) → sound (w .table) ≡ a → valuesSound (w .table) (w .present) ≡ b → selectionRight (w .table) (w .selection) ≡ c
+        → wantedRight (w .table) (w .selection) (w .wanted) ≡ d → restoreNumber w room ≡ testNumber w
+    go false b c d e f g i = rw e refl
+    go true false c d e f g i = rw (e, f) refl
+    go true true false d e f g i = rw (e, f, g) refl
+    go true true true false e f g i = rw (e, f, g, i) refl
+    go true true true true e f g i = absurd (h (rw (e, f, g, i) refl))
+
+-- ---- rules: each test in its turn
+
+-- a test that was passed
+pub passes : (b test : Bool) → b ≡ test → not b ≡ false → test ≡ true
+passes b test e h = sym e ∙ not-false b h
+
+module _ (t selection : List ℕ) (ws : List ℤ) (b : Bool) where
+  pub fails-selection : b ≡ selectionRight t selection → not b ≡ true → 5 ≡ wishNumber t selection ws
+  unfolding wishNumber
+  fails-selection e h = let c : selectionRight t selection ≡ false = sym e ∙ not-true b h in rw c refl
+
+  pub fails-wanted : b ≡ wantedRight t selection ws → not b ≡ true → selectionRight t selection ≡ true → 6 ≡ wishNumber t selection ws
+  unfolding wishNumber
+  fails-wanted e h c = let w : wantedRight t selection ws ≡ false = sym e ∙ not-true b h in rw (c, w) refl
+
+  pub passes-wish : b ≡ wantedRight t selection ws → not b ≡ false → selectionRight t selection ≡ true → 0 ≡ wishNumber t selection ws
+  unfolding wishNumber
+  passes-wish e h c = let w : wantedRight t selection ws ≡ true = sym e ∙ not-false b h in rw (c, w) refl
+
+pub ruleset wish-testing = (passes, fails-selection, fails-wanted, passes-wish)
+
+module _ (t : List ℕ) (vs : List ℤ) (selection : List ℕ) (ws : List ℤ) (b : Bool) where
+  pub fails-table : b ≡ sound t → not b ≡ true → 1 ≡ testNumber (wishOf t vs selection ws)
+  unfolding testNumber
+  fails-table e h = let s : sound t ≡ false = sym e ∙ not-true b h in rw s refl
+
+  pub fails-values : b ≡ valuesSound t vs → not b ≡ true → sound t ≡ true → 2 ≡ testNumber (wishOf t vs selection ws)
+  unfolding testNumber
+  fails-values e h s = let v : valuesSound t vs ≡ false = sym e ∙ not-true b h in rw (s, v) refl
+
+  pub tests-wish : (n : ℕ) → n ≡ wishNumber t selection ws → b ≡ valuesSound t vs → not b ≡ false → sound t ≡ true → n ≡ testNumber (wishOf t vs selection ws)
+  unfolding testNumber
+  tests-wish n k e h s = let v : valuesSound t vs ≡ true = sym e ∙ not-false b h in k ∙ rw (s, v) refl
+
+pub ruleset testing = (passes, fails-table, fails-values, tests-wish)

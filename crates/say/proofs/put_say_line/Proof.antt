@@ -1,0 +1,14 @@
+-- `put_say_line`: the set line, and 0D behind it.
+use borrow.Author.Needs.{needs}
+use Rattle.say.specs.Say.Writing.{line-writing}
+use Rattle.say.proofs.put_say_line.Statement.{statement}
+use Rattle.say.proofs.put_say_line.Tie as tie
+
+pub put-say-line-spec : {M : Type 1} → statement M
+put-say-line-spec =
+    tie.close
+    (tie.spec
+    (λ c κs. search (line-writing, needs))
+    (λ c κs. search (line-writing, needs))
+    (λ c. search (line-writing, needs))
+    (λ c. search (line-writing, needs)))

@@ -1,0 +1,2 @@
+-- The set line of the restore list.
+pub mod Say

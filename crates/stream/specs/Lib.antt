@@ -1,0 +1,2 @@
+-- A stream of bytes, served to its end.
+pub mod Stream

@@ -1,0 +1,175 @@
+-- Rules for the code that serves a stream: what holds from call to call.
+use mathlib.Core.Path.{_≡_, refl, sym, _∙_}
+use mathlib.Core.Bool.{true}
+use mathlib.Core.Logic.{inl, inr}
+use mathlib.Core.List.{List, [], _++_, append-nil, append-assoc}
+use Prim.Native.Nat.{ℕ, _+_, _-_, _≤_, _<_}
+use native.Mathlib.Nat.{zero-add}
+use native.Mathlib.Omega.{arith}
+use borrow.Rule.Slice.PartAt.{part-to-end}
+use borrow.Rule.Slice.PartMut.{putMid, post-is}
+use lib.IntN.{ℤ}
+use lib.ListN.{length, take, drop, length-drop, drop-of-length-le}
+use lib.Seq.{sets, sets-eq, drop-drop, take-add}
+use mir.Syntax.{w64}
+use mir.Val.{Fits}
+use Rattle.written.specs.Written.{Wrote}
+use Rattle.written.specs.Written.Laws.{wrote-nothing, wrote-join, wrote-length}
+use Rattle.room.specs.Table.{sound}
+use Rattle.values.specs.Values.{valuesSound}
+use Rattle.line.specs.Shape.{lineLimit}
+use Rattle.answer.specs.Answer.{answer}
+use Rattle.serial_port.specs.Port.{view}
+use Rattle.serial_port.specs.Port.Laws.{claim-view}
+use Rattle.serial_port.specs.Call.{step, replyLimit, Answers}
+use Rattle.serial_port.specs.Play.{ended, feed}
+use Rattle.serial_port.specs.Play.Feed.{followed, feed-nothing, feed-append}
+use Rattle.serial_port.specs.Play.Kept.{feed-keeps}
+use Rattle.serial_port.specs.Play.Laws.{Right, keeps-right}
+use Rattle.stream.specs.Stream.{joined, flow, Serves}
+use Rattle.stream.specs.Stream.Calls.{Made, Once, consumed-most, consumed-some, feed-once, joined-append, made, step-fits}
+use Rattle.serial_port.specs.declared.port.Port.{Port}
+use Rattle.serial_port.specs.declared.port.Called.{Called}
+use Rattle.values.specs.Values.Laws.{values-many}
+
+-- a text that was written at the start of the part behind n stands in the whole from n on
+part-put : (l r : List ℕ) (n : ℕ) → n + length r ≤ length l → putMid n (length l - n) l (sets (drop n l) 0 r) ≡ sets l n r
+part-put l r n h =
+    let rest : sets (drop n l) 0 r ≡ r ++ drop (n + length r) l =
+    sets-eq r (drop n l) 0 (rw (length-drop n l) (omega arith)) ∙ rw (zero-add (length r), drop-drop (length r) n l) refl in
+    let whole : length l ≤ length l = omega arith in
+    let none : drop (length l) l ≡ [] = drop-of-length-le l whole in
+    rw (rest, post-is n (length l) l (omega arith), none, append-nil (r ++ drop (n + length r) l), sets-eq r l n h)
+    (sym (append-assoc (take n l) r (drop (n + length r) l)))
+
+-- ---- from call to call
+
+-- the first `at` bytes of bs were served, and their replies are the first n bytes of `out`
+pub record Serving (t : List ℕ) (vs : List ℤ) (p : Port) (bs out : List ℕ) (vs′ : List ℤ) (q : Port) (at n : ℕ) (out′ : List ℕ) : Type 0 where
+  pub sounds : sound t ≡ true
+  pub given-fits : length bs < 18446744073709551616
+  pub out-fits : length out < 18446744073709551616
+  pub right : valuesSound t vs′ ≡ true
+  pub size : length vs′ ≡ length vs
+  pub few : q .len ≤ 64
+  pub within : at ≤ length bs
+  pub room : n ≤ length out
+  pub long : length out′ ≡ length out
+  pub replies : Wrote out 0 (joined (flow t vs p (take at bs) .replies)) n out′
+  pub values : vs′ ≡ flow t vs p (take at bs) .values
+  pub seen : view q ≡ flow t vs p (take at bs) .port
+
+module _ (t : List ℕ) (vs : List ℤ) (p : Port) (bs out : List ℕ) where
+  pub serving-start : sound t ≡ true → valuesSound t vs ≡ true → p .len ≤ 64 → length bs < 18446744073709551616 → length out < 18446744073709551616
+      → Serving t vs p bs out vs p 0 0 out
+  unfolding flow
+  serving-start s r k gf of =
+      let e = feed-nothing (answer t) (view p) vs in
+      record {
+        sounds = s;
+        given-fits = gf;
+        out-fits = of;
+        right = r;
+        size = refl;
+        few = k;
+        within = omega arith;
+        room = omega arith;
+        long = refl;
+        replies = rw e (unfold ended joined in wrote-nothing out 0);
+        values = rw e (unfold ended in refl);
+        seen = rw e (unfold ended in refl);
+      }
+
+  module _ (vs′ : List ℤ) (q : Port) (at n : ℕ) (out′ : List ℕ) (h : Serving t vs p bs out vs′ q at n out′) where
+    pub serving-within : n ≤ length out′
+    serving-within = omega (arith, h .room, h .long)
+
+    -- ---- one more call
+    module _ (c : Called) (vs″ : List ℤ) (part : List ℕ) (left : 64 ≤ length out′ - n)
+        (a : Answers t vs′ q (take (length bs - at) (drop at bs)) (take (length out′ - n) (drop n out′)) c vs″ part) where
+      done : Made t vs′ q (drop at bs) (drop n out′) c vs″ part
+      done =
+          let b = rw (part-to-end bs at, part-to-end out′ n) at a in
+          made t vs′ q (drop at bs) (drop n out′) c vs″ part (h .sounds) (h .right) (rw (length-drop n out′) left) (h .few) b
+
+      wrote : Wrote out′ n (step (answer t) vs′ (view q) (drop at bs) .reply) (n + c .length) (putMid n (length out′ - n) out′ part)
+      wrote =
+          let f = step-fits t vs′ (view q) (drop at bs) (h .sounds) (h .right) in
+          let r = done .reply in
+          let r-past = r .past in
+          record {
+            past = omega arith;
+            bytes = rw (r .bytes) (part-put out′ (step (answer t) vs′ (view q) (drop at bs) .reply) n (omega (arith, serving-within)));
+          }
+
+      -- the call, fed byte by byte to what the calls before left
+      fed : Once (feed (answer t) (flow t vs p (take at bs) .port) (flow t vs p (take at bs) .values) (take (c .consumed) (drop at bs))) (step (answer t) vs′ (view q) (drop at bs))
+      unfolding lineLimit
+      fed =
+          rw (← (h .seen), ← (h .values), done .consumed)
+          (feed-once (answer t) (view q) vs′ (drop at bs) (claim-view q (h .few)))
+
+      followed-by : flow t vs p (take (at + c .consumed) bs)
+          ≡ followed (flow t vs p (take at bs)) (feed (answer t) (flow t vs p (take at bs) .port) (flow t vs p (take at bs) .values) (take (c .consumed) (drop at bs)))
+      unfolding flow
+      followed-by = rw (take-add at (c .consumed) bs) (feed-append (answer t) (view p) vs (take at bs) (take (c .consumed) (drop at bs)))
+
+      right-after : valuesSound t vs″ ≡ true
+      unfolding lineLimit
+      right-after =
+          let kept = feed-keeps (answer t) (Right t) (keeps-right t (h .sounds)) (view q) vs′ (take (step (answer t) vs′ (view q) (drop at bs) .consumed) (drop at bs)) (claim-view q (h .few)) (h .right) in
+          let same : vs″ ≡ feed (answer t) (view q) vs′ (take (step (answer t) vs′ (view q) (drop at bs) .consumed) (drop at bs)) .values =
+          done .values ∙ sym (feed-once (answer t) (view q) vs′ (drop at bs) (claim-view q (h .few)) .values) in
+          rw same kept
+
+      most : c .consumed ≤ length bs - at
+      most = rw (done .consumed, ← (length-drop at bs)) (consumed-most (answer t) (view q) vs′ (drop at bs))
+
+      pub serving-less : at < length bs → length bs - (at + c .consumed) < length bs - at
+      serving-less l =
+          let some : 1 ≤ c .consumed = rw (done .consumed) (consumed-some (answer t) (view q) vs′ (drop at bs) (rw (length-drop at bs) (omega arith))) in
+          omega (arith, most)
+
+      pub serving-next : at < length bs → Serving t vs p bs out vs″ (c .port) (at + c .consumed) (n + c .length) (putMid n (length out′ - n) out′ part)
+      unfolding followed
+      serving-next l =
+          let f = followed-by in
+          let w = wrote-join (h .replies) wrote in
+          let fits = step-fits t vs′ (view q) (drop at bs) (h .sounds) (h .right) in
+          let r-past = done .reply .past in
+          record {
+            sounds = h .sounds;
+            given-fits = h .given-fits;
+            out-fits = h .out-fits;
+            right = right-after;
+            size = values-many t vs″ right-after ∙ sym (values-many t vs′ (h .right)) ∙ h .size;
+            few = done .few;
+            within = omega (arith, most);
+            room = omega (arith, serving-within, h .long);
+            long = wrote-length wrote ∙ h .long;
+            replies = rw (f, joined-append, fed .replies) w;
+            values = rw f (done .values ∙ sym (fed .values));
+            seen = rw f (done .seen ∙ sym (fed .port));
+          }
+
+      pub serving-at : Fits w64 (at + c .consumed)
+      serving-at = record { fits = omega (arith, most, h .within, h .given-fits) }
+
+      pub serving-end : Fits w64 (n + c .length)
+      serving-end =
+          let fits = step-fits t vs′ (view q) (drop at bs) (h .sounds) (h .right) in
+          let r-past = done .reply .past in
+          record { fits = omega (arith, serving-within, h .long, h .out-fits) }
+
+    -- ---- the end
+    pub served-all : length bs ≤ at → Serves t vs p bs out (record { port = q; consumed = at; length = n }) vs′ out′
+    unfolding lineLimit
+    served-all l =
+        record { within = h .within; room = h .room; replies = h .replies; values = h .values; seen = h .seen; few = h .few; ended = inl (omega (arith, h .within)) }
+
+    pub served-full : length out′ - n < 64 → Serves t vs p bs out (record { port = q; consumed = at; length = n }) vs′ out′
+    unfolding lineLimit replyLimit
+    served-full l =
+        record { within = h .within; room = h .room; replies = h .replies; values = h .values; seen = h .seen; few = h .few; ended = inr (omega (arith, h .long, h .room)) }
+
+pub ruleset serving = (serving-start, serving-within, served-all, served-full)

@@ -1,0 +1,69 @@
+// The wish: whether the selection and the wanted values are right for the table.
+use catalogue::rows::row_count;
+use room::table::body_length;
+use values::module_fits;
+ghost use mathlib.Core.Bool.{not, true, _||_};
+ghost use mathlib.Core.Path.{_≡_};
+ghost use lib.Dec.{eqb};
+ghost use lib.ListN.{length};
+ghost use Rattle.catalogue.specs.Catalogue.{known, numbers, rowsOf};
+ghost use Rattle.room.specs.Table.{sound};
+ghost use Rattle.values.specs.Values.{rowsPermit};
+ghost use Rattle.wish.specs.Target.{selectionRight, wantedRight};
+
+// Whether there is one selection byte for each module, and each is 0 or 1.
+pub fn selection_right(table: &[u8], selection: &[u8]) -> bool
+    requires { ⌜ sound (now table) ≡ true ⌝ }
+    ensures { λ r. ⌜ r ≡ selectionRight (now (table .entry)) (now (selection .entry)) ⌝ }
+{
+    let mut number = 0;
+    let mut place = 0;
+    while place < table.len() {
+        if selection.len() <= number {
+            return false;
+        }
+        if 1 < selection[number] {
+            return false;
+        }
+        let kind = table[place];
+        number += 1;
+        place = place + 1 + body_length(kind);
+    }
+    number == selection.len()
+}
+
+// Whether a module's wanted values are permitted, where it is chosen.
+fn module_right(rows: &[[i32; 8]; 50], selected: u8, kind: u8, wanted: &[i64]) -> bool
+    requires { ⌜ (now rows ≡ numbers) × (known kind ≡ true) × (length (now wanted) ≡ length (rowsOf kind)) ⌝ }
+    ensures { λ r. ⌜ r ≡ (not (eqb selected 1) || rowsPermit (rowsOf kind) (now (wanted .entry))) ⌝ }
+{
+    if selected != 1 {
+        return true;
+    }
+    module_fits(rows, kind, wanted)
+}
+
+// Whether the wanted list is as long as the parameters are many, and each chosen module's entry is permitted.
+pub fn wanted_right(table: &[u8], rows: &[[i32; 8]; 50], selection: &[u8], wanted: &[i64]) -> bool
+    requires { ⌜ (sound (now table) ≡ true) × (now rows ≡ numbers) × (selectionRight (now table) (now selection) ≡ true) ⌝ }
+    ensures { λ r. ⌜ r ≡ wantedRight (now (table .entry)) (now (selection .entry)) (now (wanted .entry)) ⌝ }
+{
+    let mut number = 0;
+    let mut place = 0;
+    let mut first = 0;
+    while place < table.len() {
+        let kind = table[place];
+        let count = row_count(kind);
+        if wanted.len() - first < count {
+            return false;
+        }
+        let end = first + count;
+        if !module_right(rows, selection[number], kind, &wanted[first..end]) {
+            return false;
+        }
+        number += 1;
+        place = place + 1 + body_length(kind);
+        first = end;
+    }
+    first == wanted.len()
+}

@@ -1,0 +1,13 @@
+-- What a writer leaves: its text from a place of the buffer on, and every other byte as it was.
+pub mod Laws
+pub mod Writing
+use mathlib.Core.Path.{_≡_}
+use mathlib.Core.List.{List}
+use Prim.Native.Nat.{ℕ, _+_}
+use lib.ListN.{length}
+use lib.Seq.{sets}
+
+-- `text` was written into `buffer` from `at` on; the answer is the place behind it
+pub record Wrote (buffer : List ℕ) (at : ℕ) (text : List ℕ) (answer : ℕ) (after : List ℕ) : Type 0 where
+  pub past : answer ≡ at + length text
+  pub bytes : after ≡ sets buffer at text

@@ -1,0 +1,66 @@
+-- Laws of what a writer leaves: nothing written, a byte, one text behind another, and the buffer's length.
+use mathlib.Core.Path.{_≡_, refl, sym, _∙_, ap}
+use mathlib.Core.List.{List, [], _∷_, _++_}
+use Prim.Native.Nat.{ℕ, suc, _+_, _≤_, _<_}
+use native.Mathlib.Nat.{add-zero}
+use native.Mathlib.Numerals.{add-one}
+use native.Mathlib.Omega.{arith}
+use lib.ListN.{length, getD, take, drop, set, length-append}
+use lib.Seq.{sets, sets-eq, length-sets, take-suc, take-all}
+use Rattle.written.specs.Written.{Wrote}
+
+sets-append : (s t l : List ℕ) (i : ℕ) → sets l i (s ++ t) ≡ sets (sets l i s) (i + length s) t
+sets-append [] t l i = rw (add-zero i)
+sets-append (a ∷ s) t l i =
+    let e : i + suc (length s) ≡ suc i + length s = omega arith in
+    rw e (sets-append s t (set l i a) (suc i))
+
+pub wrote-nothing : (l : List ℕ) (i : ℕ) → Wrote l i [] i l
+wrote-nothing l i = record { past = sym (add-zero i); bytes = refl }
+
+pub wrote-byte : (l : List ℕ) (i b : ℕ) → Wrote l i (b ∷ []) (i + 1) (set l i b)
+wrote-byte l i b = record { past = refl; bytes = refl }
+
+-- a text, and another from where it ended
+pub wrote-join : {l : List ℕ} {i : ℕ} {s : List ℕ} {j : ℕ} {m t : List ℕ} {k : ℕ} {n : List ℕ}
+    → Wrote l i s j m → Wrote m j t k n → Wrote l i (s ++ t) k n
+wrote-join {l} {i} {s} {j} {m} {t} {k} {n} a b =
+    record {
+      past = simp length-append (omega (arith, a .past, b .past));
+      bytes = b .bytes ∙ rw (a .bytes, a .past) (sym (sets-append s t l i));
+    }
+
+-- a writer leaves the buffer as long as it was
+pub wrote-length : {l : List ℕ} {i : ℕ} {s : List ℕ} {j : ℕ} {m : List ℕ} → Wrote l i s j m → length m ≡ length l
+wrote-length {l} {i} {s} w = ap length (w .bytes) ∙ length-sets l i s
+
+-- what stands before the text and behind it is as it was
+pub wrote-between : {l : List ℕ} {i : ℕ} {s : List ℕ} {j : ℕ} {m : List ℕ} → Wrote l i s j m → i + length s ≤ length l
+    → m ≡ take i l ++ s ++ drop (i + length s) l
+wrote-between {l} {i} {s} w h = w .bytes ∙ sets-eq s l i h
+
+-- ---- a copy, byte by byte
+
+-- the first i bytes of `source` were written
+pub record Copied (l : List ℕ) (at : ℕ) (source : List ℕ) (i : ℕ) (m : List ℕ) : Type 0 where
+  pub within : i ≤ length source
+  pub long : length m ≡ length l
+  pub wrote : Wrote l at (take i source) (at + i) m
+
+pub copy-start : (l : List ℕ) (at : ℕ) (source : List ℕ) → Copied l at source 0 l
+copy-start l at source =
+    record { within = omega arith; long = refl; wrote = rw (add-zero at) (wrote-nothing l at) }
+
+pub copy-next : (l : List ℕ) (at : ℕ) (source : List ℕ) (i : ℕ) (m : List ℕ) → Copied l at source i m → i < length source
+    → Copied l at source (i + 1) (set m (at + i) (getD source i 0))
+copy-next l at source i m c h =
+    let b = wrote-byte m (at + i) (getD source i 0) in
+    let w : Wrote l at (take i source ++ (getD source i 0 ∷ [])) (at + i + 1) (set m (at + i) (getD source i 0)) = wrote-join (c .wrote) b in
+    let e : at + i + 1 ≡ at + (i + 1) = omega arith in
+    let t : take (i + 1) source ≡ take i source ++ (getD source i 0 ∷ []) = rw (add-one, take-suc source i 0) in
+    record { within = omega arith; long = wrote-length b ∙ c .long; wrote = rw (t, ← e) w }
+
+pub copy-end : (l : List ℕ) (at : ℕ) (source : List ℕ) (i : ℕ) (m : List ℕ) → Copied l at source i m → length source ≤ i → Wrote l at source (at + i) m
+copy-end l at source i m c h = rw (take-all i source h) at (c .wrote)
+
+pub ruleset copying = (copy-start, copy-next, copy-end)
