@@ -33,7 +33,13 @@ ends=$(tr -dc '\r' <input | wc -c)
 replies=$(tr -dc '\r' <whole | wc -c)
 if [ "$ends" = "$replies" ]; then echo "ok: one reply to each of $ends lines"; else echo "FAILED: $replies replies to $ends lines"; failed=1; fi
 
-# the same, cut byte by byte and at random
+# a line of 65 bytes gets one 99, and the next line is read afresh
+python3 -c 'import sys; sys.stdout.buffer.write(b"x" * 65 + b"\rGA\"T\">1\r")' >long
+printf '\02599\rGA"T">1=0.0\r' >afresh
+"$program" <long >got
+same "a line of 65 bytes gets one 99, and the next is read afresh" got afresh
+
+# the whole input, cut byte by byte and at random
 writer() { # SEED: 0 for single bytes
     python3 - "$1" <<'P'
 import random, sys, time

@@ -24,6 +24,7 @@ act t vs (Code n) = record { reply = nak n; values = vs }
 act t vs (Get p) = record { reply = getReply t p (getD vs (place p) (pos 0)); values = vs }
 act t vs (Put p x) = record { reply = ack; values = set vs (place p) x }
 
+-- the answer to a line: what it means in the room with these values is done
 unfoldable pub answer : List ℕ → List ℤ → List ℕ → Answer
 answer t vs line = act t vs (meaning t vs line)
 

@@ -8,7 +8,7 @@ ghost use Rattle.catalogue.specs.Catalogue.{catalogue, numbers};
 ghost use Rattle.catalogue.specs.Catalogue.Rules.{entryAt};
 ghost use Rattle.row.specs.Row.{permitted};
 
-// Whether row n of the table permits the value v: the same, over the row's own numbers, which are narrow.
+// Whether row n of the table permits the value v; no row is built, and the row's numbers are narrow.
 pub fn row_permits(rows: &[[i32; 8]; 50], n: usize, v: i64) -> bool
     requires { ⌜ (now rows ≡ numbers) × (n < length catalogue) ⌝ }
     ensures { λ r. ⌜ r ≡ permitted (entryAt n .row) v ⌝ }

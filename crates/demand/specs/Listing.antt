@@ -34,6 +34,7 @@ changesOf (p ∷ ps) (v ∷ vs) [] = []
 changesOf (p ∷ ps) (v ∷ vs) (x ∷ xs) =
     cond (equal v x) (changesOf ps vs xs) (record { parameter = p; present = v; target = x } ∷ changesOf ps vs xs)
 
+-- the parameters whose target differs from the present value, in value order
 unfoldable pub changes : Wish → List Change
 changes w = changesOf (parameters (w .table)) (w .present) (target w)
 

@@ -27,7 +27,7 @@ isGet line = same (take 2 line) (0x47 ∷ 0x41 ∷ [])
 unfoldable pub opening : List ℕ → ℕ
 opening line = cond (eqb (getD line 2 0) 0x20) 3 2
 
--- where the first byte b from place `from` on stands; the line's length where there is none
+-- where the first byte b from place `from` on stands; where there is none, the line's length, or `from` where that lies past it
 unfoldable pub firstFrom : ℕ → ℕ → List ℕ → ℕ
 firstFrom b from line = from + indexOf b (drop from line)
 
@@ -51,6 +51,7 @@ unfoldable pub quoted : List ℕ → Shape → Shape
 quoted line shape =
     cond (eqb (getD line (opening line) 0) 0x22) (cond (ltb (closing line) (length line)) shape Malformed) Malformed
 
+-- at most 64 bytes; the verb in capitals, SA or GA; at most one space; a quote, and a second one; for SA the `=` after it. Any other line is malformed
 unfoldable pub shape : List ℕ → Shape
 shape line =
     cond (ltb lineLimit (length line)) Malformed

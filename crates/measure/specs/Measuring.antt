@@ -13,7 +13,7 @@ use mathlib.Core.Path.{_≡_}
 use mathlib.Core.Bool.{Bool, true, cond, _&&_}
 use mathlib.Core.List.{List, [], _∷_}
 use Prim.Native.Nat.{ℕ, _+_, _≤_, _<_}
-use lib.Dec.{eqb}
+use lib.Dec.{eqb, leb}
 use lib.IntN.{ℤ}
 use lib.ListN.{length, getD, take, drop}
 use Rattle.catalogue.specs.Catalogue.{known, rowsOf}
@@ -56,6 +56,11 @@ measuredIf listed t cs = cond listed (Within (length (listing t cs)) (length cs)
 
 unfoldable pub measured : (table : List ℕ) → List Change → Measured
 measured t cs = measuredIf (allReachable t cs) t cs
+
+-- the number of the restore call for what measuring answers, with so much room for the list: 7 beyond reach, 8 no room, 0 else
+unfoldable pub measuredNumber : Measured → (room : ℕ) → ℕ
+measuredNumber Beyond room = 7
+measuredNumber (Within bytes lines) room = cond (leb bytes room) 0 8
 
 -- what measuring a module answers; its bytes and lines are few
 pub record Few (r : Measured) : Type 0 where

@@ -1,16 +1,17 @@
 // Reading the module table from its file.
 ghost use mathlib.Core.Path.{_≡_};
 ghost use Prim.Native.Nat.{_≤_};
-ghost use lib.ListN.{length};
+ghost use lib.ListN.{length, replicate};
 
 // Room for the longest table and one byte more, by which a longer one is seen.
 pub fn table_buffer() -> [u8; 2113]
-    ensures { λ r. ⌜ 2113 ≡ length r ⌝ }
+    ensures { λ r. ⌜ r ≡ replicate 2113 0 ⌝ }
 {
     [0; 2113]
 }
 
-// Reads until the file ends or the buffer is full, and tells how many bytes came; all of the buffer where a read fails.
+// Reads until the file ends or the buffer is full, and tells how many bytes came; all of the buffer where a read fails. What a file holds
+// is outside the proof, so the contract only limits the answer.
 fn read_to_end(fd: i32, buffer: &mut [u8]) -> usize
     ensures { λ r. ⌜ r ≤ length (now (buffer .exit)) ⌝ }
 {
@@ -29,7 +30,8 @@ fn read_to_end(fd: i32, buffer: &mut [u8]) -> usize
     at
 }
 
-// The length of a file that was read into the buffer; all of the buffer where it is missing, can't be read or is longer.
+// The length of a file that was read into the buffer; all of the buffer where it is missing, can't be read or is longer. The contract only
+// limits it, as above.
 pub fn read_file(path: &[u8], buffer: &mut [u8]) -> usize
     ensures { λ r. ⌜ r ≤ length (now (buffer .exit)) ⌝ }
 {

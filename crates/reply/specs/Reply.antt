@@ -11,6 +11,7 @@ use Rattle.row.specs.declared.Kind.the-variants as kind
 use Rattle.parameter.specs.declared.Parameter.{Parameter}
 use Rattle.name.specs.Name.{name}
 
+-- 06, 0D
 unfoldable pub ack : List ℕ
 ack = 0x06 ∷ 0x0D ∷ []
 

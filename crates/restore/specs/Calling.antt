@@ -1,19 +1,20 @@
 -- How the restore call answers: a rule for each return and each call.
-use mathlib.Core.Path.{_≡_, sym, _∙_}
+use mathlib.Core.Path.{_≡_, refl, sym, ap, _∙_}
 use mathlib.Core.Bool.{true}
 use mathlib.Core.List.{List}
 use Prim.Native.Nat.{ℕ, _≤_, _<_}
 use native.Mathlib.Omega.{arith}
+use borrow.Author.Tests.{le-leb, lt-leb}
 use lib.IntN.{ℤ}
 use lib.ListN.{length}
 use Rattle.written.specs.Written.{Wrote}
-use Rattle.demand.specs.Listing.{allReachable, changes, listNumber, listing, restoreNumber}
-use Rattle.demand.specs.Listing.Numbers.{list-fits, list-long, list-unreachable, number-list}
+use Rattle.demand.specs.Listing.{allReachable, changes, listing, restoreNumber}
+use Rattle.demand.specs.Listing.Numbers.{number-list}
 use Rattle.demand.specs.Demand.{Admitted, Restores}
 use Rattle.restore.specs.Testing.{test-admits, test-refuses, testNumber}
 use Rattle.demand.specs.Demand.Rules.{returns-listed, returns-refused}
-use Rattle.measure.specs.Measuring.{measured}
-use Rattle.measure.specs.Measuring.Told.{beyond-told, within-told}
+use Rattle.measure.specs.Measuring.{measured, measuredNumber}
+use Rattle.measure.specs.Measuring.Told.{number-told, within-told}
 use Rattle.measure.specs.Measuring.Walk.{wishOf}
 use Rattle.measure.specs.declared.Measured.{Measured}
 use Rattle.measure.specs.declared.Measured.the-variants.{Within, Beyond}
@@ -27,31 +28,31 @@ module _ (t : List ℕ) (vs : List ℤ) (selection : List ℕ) (ws : List ℤ) (
   -- ---- a list that the wish admits
 
   module _ (a : Admitted (wishOf t vs selection ws)) (f : Measured) (g : f ≡ measured t (changes (wishOf t vs selection ws))) where
-    listed : restoreNumber (wishOf t vs selection ws) (length buffer) ≡ listNumber t (length buffer) (changes (wishOf t vs selection ws))
-    listed = number-list (wishOf t vs selection ws) (length buffer) (a .table) (a .present) (a .selection) (a .wanted)
+    listed : restoreNumber (wishOf t vs selection ws) (length buffer) ≡ measuredNumber f (length buffer)
+    listed =
+        number-list (wishOf t vs selection ws) (length buffer) (a .table) (a .present) (a .selection) (a .wanted)
+        ∙ number-told t (changes (wishOf t vs selection ws)) (length buffer) ∙ ap (λ m. measuredNumber m (length buffer)) (sym g)
 
     pub refuses-reach : (r : Restored) → f ≡ Beyond → r ≡ record { bytes = 0; lines = 0; number = 7 } → Restores (wishOf t vs selection ws) buffer r buffer
-    refuses-reach r e k =
-        let h = beyond-told t (changes (wishOf t vs selection ws)) (sym e ∙ g) in
-        refuses r 7 k (listed ∙ list-unreachable (wishOf t vs selection ws) (length buffer) h) (λ z. omega arith)
+    unfolding measuredNumber
+    refuses-reach r e k = refuses r 7 k (listed ∙ rw e refl) (λ z. omega arith)
 
     module _ (bytes lines : ℕ) (e : f ≡ Within bytes lines) where
       told : (allReachable t (changes (wishOf t vs selection ws)) ≡ true) × (bytes ≡ length (listing t (changes (wishOf t vs selection ws)))) × (lines ≡ length (changes (wishOf t vs selection ws)))
       told = within-told t (changes (wishOf t vs selection ws)) bytes lines (sym e ∙ g)
 
       pub refuses-room : (r : Restored) → length buffer < bytes → r ≡ record { bytes = 0; lines = 0; number = 8 } → Restores (wishOf t vs selection ws) buffer r buffer
-      refuses-room r h k =
-          let u = told in
-          refuses r 8 k (listed ∙ list-long (wishOf t vs selection ws) (length buffer) (u .0) (omega (arith, u .1))) (λ z. omega arith)
+      unfolding measuredNumber
+      refuses-room r h k = refuses r 8 k (listed ∙ rw (e, lt-leb bytes (length buffer) h) refl) (λ z. omega arith)
 
       pub list-room : bytes ≤ length buffer → length (listing t (changes (wishOf t vs selection ws))) ≤ length buffer
       list-room h = omega (arith, told .1)
 
       pub returns-list : (n : ℕ) (after : List ℕ) → bytes ≤ length buffer → Wrote buffer 0 (listing t (changes (wishOf t vs selection ws))) n after
           → Restores (wishOf t vs selection ws) buffer (record { bytes = bytes; lines = lines; number = 0 }) after
+      unfolding measuredNumber
       returns-list n after h w =
-          let u = told in
-          returns-listed (wishOf t vs selection ws) buffer bytes lines after (listed ∙ list-fits (wishOf t vs selection ws) (length buffer) (u .0) (list-room h)) (u .1) (u .2) (w .bytes)
+          returns-listed (wishOf t vs selection ws) buffer bytes lines after (listed ∙ rw (e, le-leb bytes (length buffer) h) refl) (told .1) (told .2) (w .bytes)
 
   -- ---- a wish that it does not admit
 

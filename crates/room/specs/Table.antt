@@ -54,6 +54,7 @@ recordsSound (suc left) (kind ∷ t) = bodySound kind (take (bodyLength kind) t)
 unfoldable pub recordLimit : ℕ
 recordLimit = 64
 
+-- a table of 0 to 64 sound records, one behind the other, and nothing after them
 unfoldable pub sound : List ℕ → Bool
 sound t = recordsSound recordLimit t
 

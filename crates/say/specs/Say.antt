@@ -11,6 +11,7 @@ use Rattle.row.specs.declared.Kind.the-variants as kind
 use Rattle.parameter.specs.declared.Parameter.{Parameter}
 use Rattle.name.specs.Name.{name}
 
+-- a value in a set line: a level in its shortest text, O or F and never T, a number without leading zeros
 unfoldable pub setText : Kind → ℤ → List ℕ
 setText kind.Level v = levelText v
 setText kind.Switch v = switchText (natAbs v)

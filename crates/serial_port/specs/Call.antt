@@ -80,7 +80,8 @@ tell (suc n) vs buffer s = record { number = suc n; consumed = 0; length = 0; va
 unfoldable pub call : (table : List ℕ) → List ℤ → Port → List ℕ → (buffer : List ℕ) → Told
 call t vs p bs buffer = tell (callNumber t vs (length buffer) (p .len)) vs buffer (step (answer t) vs (view p) bs)
 
--- the port q that a call hands back: the given one on a refusal, else one that is seen as v and claims at most 64 bytes
+-- the port q that a call hands back: the given one on a refusal, else one that is seen as v and claims at most 64 bytes. Left open, as the rules leave it, are the held bytes
+-- of a port that has overrun, and what is stored past the held bytes
 abbrev pub Handed : (number : ℕ) → Port → View → Port → Type 0
 Handed zero p v q = (view q ≡ v) × (q .len ≤ lineLimit)
 Handed (suc n) p v q = q ≡ p

@@ -67,7 +67,7 @@ impl Port {
 
     pub const MODULES: usize = room::table::MODULES;
 
-    // The port that holds nothing.
+    // The port that holds nothing; what is stored past the held bytes is left open.
     pub fn fresh() -> Port
         ensures { λ r. ⌜ (view r ≡ fresh) × (r .len ≡ 0) ⌝ }
     {

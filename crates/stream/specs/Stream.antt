@@ -1,18 +1,20 @@
 -- Serving a stream: what its calls consume is fed byte by byte, and the replies are put one after the other.
 pub mod Calls
+pub mod Consuming
 pub mod Laws
 pub mod Turns
 use mathlib.Core.Path.{_≡_}
-use mathlib.Core.Logic.{_⊎_}
+use mathlib.Core.Bool.{cond}
 use mathlib.Core.List.{List, [], _∷_, _++_}
-use Prim.Native.Nat.{ℕ, _+_, _≤_, _<_}
+use Prim.Native.Nat.{ℕ, zero, suc, _+_, _-_, _≤_}
 use lib.IntN.{ℤ}
-use lib.ListN.{length, take}
+use lib.Dec.{ltb}
+use lib.ListN.{length, take, drop}
 use Rattle.written.specs.Written.{Wrote}
 use Rattle.line.specs.Shape.{lineLimit}
 use Rattle.answer.specs.Answer.{answer}
-use Rattle.serial_port.specs.Port.{view}
-use Rattle.serial_port.specs.Call.{replyLimit}
+use Rattle.serial_port.specs.Port.{View, view}
+use Rattle.serial_port.specs.Call.{step, replyLimit}
 use Rattle.serial_port.specs.Play.{Played, feed}
 use Rattle.serial_port.specs.declared.port.Port.{Port}
 use Rattle.stream.specs.declared.Served.{Served}
@@ -26,13 +28,22 @@ joined (r ∷ rs) = r ++ joined rs
 unfoldable pub flow : List ℕ → List ℤ → Port → List ℕ → Played
 flow t vs p bs = feed (answer t) (view p) vs bs
 
--- the promise of serving bs: what was consumed gives the replies at the start of `out`, the values and the port, later bytes of `out` stay,
--- and it ended only where nothing is left or fewer than 64 bytes of `out` are
+-- how many bytes are consumed by calls that are made one after the other while bytes are left and `room` has 64 bytes for a reply. A call that is given a byte consumes
+-- one, so no more calls are made than there are bytes
+unfoldable pub consumes : (calls : ℕ) → List ℕ → List ℤ → View → (bs : List ℕ) → (room : ℕ) → ℕ
+consumes zero t vs v bs room = 0
+consumes (suc calls) t vs v [] room = 0
+consumes (suc calls) t vs v (b ∷ bs) room =
+    let s = step (answer t) vs v (b ∷ bs) in
+    cond (ltb room replyLimit) 0 (s .consumed + consumes calls t (s .values) (s .port) (drop (s .consumed) (b ∷ bs)) (room - length (s .reply)))
+
+-- the promise of serving bs: it consumes so many bytes, which give the replies at the start of `out`, the values and the port; later bytes of `out` stay.
+-- Left open, as for a call, is what the port stores past its held bytes
 pub record Serves (t : List ℕ) (vs : List ℤ) (p : Port) (bs out : List ℕ) (s : Served) (vs′ : List ℤ) (out′ : List ℕ) : Type 0 where
+  pub consumed : s .consumed ≡ consumes (length bs) t vs (view p) bs (length out)
   pub within : s .consumed ≤ length bs
   pub room : s .length ≤ length out
   pub replies : Wrote out 0 (joined (flow t vs p (take (s .consumed) bs) .replies)) (s .length) out′
   pub values : vs′ ≡ flow t vs p (take (s .consumed) bs) .values
   pub seen : view (s .port) ≡ flow t vs p (take (s .consumed) bs) .port
   pub few : s .port .len ≤ lineLimit
-  pub ended : (s .consumed ≡ length bs) ⊎ (length out < s .length + replyLimit)

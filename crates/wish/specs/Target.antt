@@ -50,6 +50,7 @@ targetOf selection (p ∷ ps) [] ws = []
 targetOf selection (p ∷ ps) (v ∷ vs) [] = []
 targetOf selection (p ∷ ps) (v ∷ vs) (w ∷ ws) = cond (chosen selection p) w v ∷ targetOf selection ps vs ws
 
+-- wanted where the module is chosen, and else present
 unfoldable pub target : Wish → List ℤ
 target w = targetOf (w .selection) (parameters (w .table)) (w .present) (w .wanted)
 

@@ -84,7 +84,6 @@ price-listing t (p ∷ ps) (v ∷ vs) (x ∷ xs) = go (equal v x) refl (price-li
     go true q e = rw q (omega arith)
     go false q e = rw q (simp length-append (omega arith))
 
--- a parameter of a list stands at-inside it
 -- what is left to pay on the way to the target xs
 abbrev pub potential : (table : List ℕ) → (target : List ℤ) → List ℤ → ℕ
 potential t xs vs = total (prices t (parameters t) xs) vs

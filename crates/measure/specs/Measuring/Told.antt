@@ -1,12 +1,13 @@
 -- What measuring tells: whether the changes are within reach, their bytes and their lines.
 use mathlib.Core.Path.{_≡_, refl}
-use mathlib.Core.Bool.{Bool, true, false}
+use mathlib.Core.Bool.{Bool, true, false, cond}
 use mathlib.Core.List.{List}
 use Prim.Native.Nat.{ℕ, _≤_}
 use native.Mathlib.Omega.{arith}
+use lib.Dec.{leb}
 use lib.ListN.{length}
-use Rattle.demand.specs.Listing.{Change, allReachable, listing}
-use Rattle.measure.specs.Measuring.{Few, measured, measuredIf}
+use Rattle.demand.specs.Listing.{Change, allReachable, listNumber, listing}
+use Rattle.measure.specs.Measuring.{Few, measured, measuredIf, measuredNumber}
 use Rattle.measure.specs.declared.Measured.the-variants.{Within, Beyond}
 
 pub flag-beyond : (b : Bool) (t : List ℕ) (cs : List Change) → Beyond ≡ measuredIf b t cs → b ≡ false
@@ -28,6 +29,15 @@ pub within-told : (t : List ℕ) (cs : List Change) (bytes lines : ℕ) → With
     → (allReachable t cs ≡ true) × (bytes ≡ length (listing t cs)) × (lines ≡ length cs)
 unfolding measured
 within-told t cs bytes lines e = flag-within (allReachable t cs) t cs bytes lines e
+
+-- the number of each case is the one that the list's definition gives
+pub number-told : (t : List ℕ) (cs : List Change) (room : ℕ) → listNumber t room cs ≡ measuredNumber (measured t cs) room
+unfolding measured measuredIf measuredNumber listNumber
+number-told t cs room = go (allReachable t cs)
+  where
+    go : (b : Bool) → cond b (cond (leb (length (listing t cs)) room) 0 8) 7 ≡ measuredNumber (measuredIf b t cs) room
+    go true = refl
+    go false = refl
 
 -- ---- few bytes and lines
 

@@ -102,7 +102,6 @@ step-fits t vs v bs s r = go (has 0x0D bs) refl
     go true e = rw (step-finishes (answer t) vs v bs e) (reply-fits t vs (join v (before 0x0D bs)) s r)
     go false e = rw (step-waits (answer t) vs v bs e) (omega arith)
 
--- lists of values that are right for a table are equally long
 -- what an accepted call leaves: its reply in the reply buffer, the values, the port, and what it consumed
 pub record Made (t : List ℕ) (vs : List ℤ) (p : Port) (bs buffer : List ℕ) (c : Called) (vs′ : List ℤ) (buffer′ : List ℕ) : Type 0 where
   pub reply : Wrote buffer 0 (step (answer t) vs (view p) bs .reply) (c .length) buffer′

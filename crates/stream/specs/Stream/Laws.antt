@@ -1,10 +1,8 @@
 -- What a served stream leaves to its caller: right values, a buffer as long as it was, and progress.
-use mathlib.Core.Path.{_≡_, refl, sym, _∙_}
+use mathlib.Core.Path.{_≡_, sym, _∙_}
 use mathlib.Core.Bool.{true}
-use mathlib.Core.Logic.{⊎-elim}
 use mathlib.Core.List.{List}
-use Prim.Native.Nat.{ℕ, zero, suc, _+_, _≤_, _<_}
-use native.Mathlib.Omega.{arith}
+use Prim.Native.Nat.{ℕ, _≤_}
 use lib.IntN.{ℤ}
 use lib.ListN.{length, take}
 use Rattle.written.specs.Written.Laws.{wrote-length}
@@ -14,20 +12,13 @@ use Rattle.line.specs.Shape.{lineLimit}
 use Rattle.answer.specs.Answer.{answer}
 use Rattle.serial_port.specs.Port.{view}
 use Rattle.serial_port.specs.Port.Laws.{claim-view}
-use Rattle.serial_port.specs.Call.{replyLimit}
-use Rattle.serial_port.specs.Play.{ended}
-use Rattle.serial_port.specs.Play.Feed.{feed-nothing}
 use Rattle.serial_port.specs.Play.Kept.{feed-keeps}
 use Rattle.serial_port.specs.Play.Laws.{Right, keeps-right}
-use Rattle.stream.specs.Stream.{joined, flow, Serves}
+use Rattle.stream.specs.Stream.{flow, Serves}
+use Rattle.stream.specs.Stream.Consuming.{some-consumed}
 use Rattle.serial_port.specs.declared.port.Port.{Port}
 use Rattle.stream.specs.declared.Served.{Served}
 use Rattle.values.specs.Values.Laws.{values-many}
-
--- nothing consumed gives no reply
-none-joined : (t : List ℕ) (vs : List ℤ) (p : Port) (bs : List ℕ) (n : ℕ) → n ≡ 0 → length (joined (flow t vs p (take n bs) .replies)) ≡ 0
-unfolding flow joined ended
-none-joined t vs p bs n e = rw (e, feed-nothing (answer t) (view p) vs) refl
 
 module _ (t : List ℕ) (vs : List ℤ) (p : Port) (bs out : List ℕ) (s : Served) (vs′ : List ℤ) (out′ : List ℕ) where
   pub serves-right : sound t ≡ true → valuesSound t vs ≡ true → p .len ≤ 64 → Serves t vs p bs out s vs′ out′ → valuesSound t vs′ ≡ true
@@ -42,12 +33,4 @@ module _ (t : List ℕ) (vs : List ℤ) (p : Port) (bs out : List ℕ) (s : Serv
 
   -- with room for a reply, a byte or more is consumed where any is given
   pub serves-some : 64 ≤ length out → 1 ≤ length bs → Serves t vs p bs out s vs′ out′ → 1 ≤ s .consumed
-  unfolding replyLimit
-  serves-some h k a =
-      ⊎-elim (λ (e : s .consumed ≡ length bs). omega arith) (λ (e : length out < s .length + 64). go (s .consumed) refl e) (a .ended)
-    where
-      go : (n : ℕ) → s .consumed ≡ n → length out < s .length + 64 → 1 ≤ s .consumed
-      go zero e l =
-          let long = a .replies .past in
-          absurd (omega (arith, none-joined t vs p bs (s .consumed) e))
-      go (suc n) e l = omega arith
+  serves-some h k a = rw (a .consumed) (some-consumed t vs (view p) bs (length out) k h)

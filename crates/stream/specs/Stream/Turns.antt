@@ -1,10 +1,9 @@
 -- Rules for the code that serves a stream: what holds from call to call.
-use mathlib.Core.Path.{_≡_, refl, sym, _∙_}
+use mathlib.Core.Path.{_≡_, refl, sym, ap, _∙_}
 use mathlib.Core.Bool.{true}
-use mathlib.Core.Logic.{inl, inr}
 use mathlib.Core.List.{List, [], _++_, append-nil, append-assoc}
 use Prim.Native.Nat.{ℕ, _+_, _-_, _≤_, _<_}
-use native.Mathlib.Nat.{zero-add}
+use native.Mathlib.Nat.{zero-add, add-assoc, sub-zero}
 use native.Mathlib.Omega.{arith}
 use borrow.Rule.Slice.PartAt.{part-to-end}
 use borrow.Rule.Slice.PartMut.{putMid, post-is}
@@ -26,8 +25,9 @@ use Rattle.serial_port.specs.Play.{ended, feed}
 use Rattle.serial_port.specs.Play.Feed.{followed, feed-nothing, feed-append}
 use Rattle.serial_port.specs.Play.Kept.{feed-keeps}
 use Rattle.serial_port.specs.Play.Laws.{Right, keeps-right}
-use Rattle.stream.specs.Stream.{joined, flow, Serves}
+use Rattle.stream.specs.Stream.{joined, flow, consumes, Serves}
 use Rattle.stream.specs.Stream.Calls.{Made, Once, consumed-most, consumed-some, feed-once, joined-append, made, step-fits}
+use Rattle.stream.specs.Stream.Consuming.{none-left, no-room, one-more}
 use Rattle.serial_port.specs.declared.port.Port.{Port}
 use Rattle.serial_port.specs.declared.port.Called.{Called}
 use Rattle.values.specs.Values.Laws.{values-many}
@@ -58,6 +58,7 @@ pub record Serving (t : List ℕ) (vs : List ℤ) (p : Port) (bs out : List ℕ)
   pub replies : Wrote out 0 (joined (flow t vs p (take at bs) .replies)) n out′
   pub values : vs′ ≡ flow t vs p (take at bs) .values
   pub seen : view q ≡ flow t vs p (take at bs) .port
+  pub rest : consumes (length bs) t vs (view p) bs (length out) ≡ at + consumes (length bs - at) t vs′ (view q) (drop at bs) (length out - n)
 
 module _ (t : List ℕ) (vs : List ℤ) (p : Port) (bs out : List ℕ) where
   pub serving-start : sound t ≡ true → valuesSound t vs ≡ true → p .len ≤ 64 → length bs < 18446744073709551616 → length out < 18446744073709551616
@@ -78,6 +79,7 @@ module _ (t : List ℕ) (vs : List ℤ) (p : Port) (bs out : List ℕ) where
         replies = rw e (unfold ended joined in wrote-nothing out 0);
         values = rw e (unfold ended in refl);
         seen = rw e (unfold ended in refl);
+        rest = rw (sub-zero (length bs), sub-zero (length out)) (sym (zero-add (consumes (length bs) t vs (view p) bs (length out))));
       }
 
   module _ (vs′ : List ℤ) (q : Port) (at n : ℕ) (out′ : List ℕ) (h : Serving t vs p bs out vs′ q at n out′) where
@@ -130,6 +132,19 @@ module _ (t : List ℕ) (vs : List ℤ) (p : Port) (bs out : List ℕ) where
           let some : 1 ≤ c .consumed = rw (done .consumed) (consumed-some (answer t) (view q) vs′ (drop at bs) (rw (length-drop at bs) (omega arith))) in
           omega (arith, most)
 
+      rest-next : at < length bs
+          → consumes (length bs) t vs (view p) bs (length out)
+          ≡ at + c .consumed + consumes (length bs - (at + c .consumed)) t vs″ (view (c .port)) (drop (at + c .consumed) bs) (length out - (n + c .length))
+      rest-next l =
+          let v = view q in
+          let long = length-drop at bs in
+          let m = one-more t vs′ v (drop at bs) (length out - n) (rw long (omega arith)) (omega (arith, h .long)) in
+          let told : c .length ≡ length (step (answer t) vs′ v (drop at bs) .reply) = done .reply .past ∙ zero-add (length (step (answer t) vs′ v (drop at bs) .reply)) in
+          let fuel : length bs - (at + c .consumed) ≡ length bs - at - c .consumed = omega arith in
+          let left : length out - (n + c .length) ≡ length out - n - c .length = omega arith in
+          let whole = h .rest ∙ ap (λ (k : ℕ). at + k) (rw long at m) in
+          rw (fuel, left, ← (drop-drop (c .consumed) at bs), told, done .consumed, done .values, done .seen, add-assoc at (step (answer t) vs′ v (drop at bs) .consumed)) whole
+
       pub serving-next : at < length bs → Serving t vs p bs out vs″ (c .port) (at + c .consumed) (n + c .length) (putMid n (length out′ - n) out′ part)
       unfolding followed
       serving-next l =
@@ -150,6 +165,7 @@ module _ (t : List ℕ) (vs : List ℤ) (p : Port) (bs out : List ℕ) where
             replies = rw (f, joined-append, fed .replies) w;
             values = rw f (done .values ∙ sym (fed .values));
             seen = rw f (done .seen ∙ sym (fed .port));
+            rest = rest-next l;
           }
 
       pub serving-at : Fits w64 (at + c .consumed)
@@ -162,14 +178,24 @@ module _ (t : List ℕ) (vs : List ℤ) (p : Port) (bs out : List ℕ) where
           record { fits = omega (arith, serving-within, h .long, h .out-fits) }
 
     -- ---- the end
+    nothing-after : length bs ≤ at → at ≡ consumes (length bs) t vs (view p) bs (length out)
+    nothing-after l =
+        let z = none-left t (length bs - at) vs′ (view q) (drop at bs) (length out - n) (rw (length-drop at bs) (omega arith)) in
+        sym (h .rest ∙ rw z (omega arith))
+
+    nothing-fits : length out′ - n < 64 → at ≡ consumes (length bs) t vs (view p) bs (length out)
+    nothing-fits l =
+        let z = no-room t (length bs - at) vs′ (view q) (drop at bs) (length out - n) (omega (arith, h .long)) in
+        sym (h .rest ∙ rw z (omega arith))
+
     pub served-all : length bs ≤ at → Serves t vs p bs out (record { port = q; consumed = at; length = n }) vs′ out′
     unfolding lineLimit
     served-all l =
-        record { within = h .within; room = h .room; replies = h .replies; values = h .values; seen = h .seen; few = h .few; ended = inl (omega (arith, h .within)) }
+        record { within = h .within; room = h .room; replies = h .replies; values = h .values; seen = h .seen; few = h .few; consumed = nothing-after l }
 
     pub served-full : length out′ - n < 64 → Serves t vs p bs out (record { port = q; consumed = at; length = n }) vs′ out′
     unfolding lineLimit replyLimit
     served-full l =
-        record { within = h .within; room = h .room; replies = h .replies; values = h .values; seen = h .seen; few = h .few; ended = inr (omega (arith, h .long, h .room)) }
+        record { within = h .within; room = h .room; replies = h .replies; values = h .values; seen = h .seen; few = h .few; consumed = nothing-fits l }
 
 pub ruleset serving = (serving-start, serving-within, served-all, served-full)
