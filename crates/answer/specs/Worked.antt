@@ -19,7 +19,7 @@ use Rattle.room.specs.Table.{bodyLength, recordLimit, modulesFrom, modules}
 use Rattle.label.specs.Label.{label, same, bearersIn, exactlyOne, bearer}
 use Rattle.row.specs.Row.{sameIndices}
 use Rattle.parameter.specs.Parameters.{numbered, parametersOf, place, withIndices, named}
-use Rattle.line.specs.Shape.{lineLimit, isSet, isGet, opening, firstFrom, closing, equals, getShape, setShape, quoted, shape, part}
+use Rattle.shape.specs.Shape.{lineLimit, isSet, isGet, opening, firstFrom, closing, equals, getShape, setShape, quoted, shape, part}
 use Rattle.line.specs.IndexPart.{oneGroup, twoGroups, groups, readIndices}
 use Rattle.line.specs.Value.{ofLevel, ofNumber, ofSwitch, readKind, onlyPermitted, readValue}
 use Rattle.meaning.specs.Meaning.{indexed, inModule, inRoom, putOf, getOf, setOf, ofShape, meaning}

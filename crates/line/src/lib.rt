@@ -1,4 +1,3 @@
-// The parts of a line: its shape, its index part, its value text.
+// The parts of a line that name a row and say a value: its index part and its value text.
 pub mod index;
-pub mod shape;
 pub mod value;

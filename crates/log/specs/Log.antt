@@ -13,7 +13,7 @@ use Rattle.label.specs.Label.{bearer}
 use Rattle.room.specs.Table.{sound}
 use Rattle.label.specs.declared.Bearer.{Bearer}
 use Rattle.label.specs.declared.Bearer.the-variants.{Only, NotOne}
-use Rattle.line.specs.Shape.{firstFrom, part}
+use Rattle.shape.specs.Shape.{firstFrom, part}
 use Rattle.log.specs.declared.LogPart.{LogPart}
 use Rattle.log.specs.declared.LogPart.the-variants.{Table, Line, Nothing}
 

@@ -10,7 +10,7 @@ ghost use lib.ListN.{length};
 ghost use Rattle.label.specs.Label.{bearer};
 ghost use Rattle.room.specs.Table.{sound};
 ghost use Rattle.log.specs.Log.{logLabel, logPart, placed, shown};
-ghost use Rattle.line.specs.Shape.{part};
+ghost use Rattle.shape.specs.Shape.{part};
 
 // A part of the table or of the line, from a start to an end, or the empty part at the line's start.
 pub enum LogPart {

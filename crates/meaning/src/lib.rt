@@ -3,14 +3,14 @@ use label::Bearer;
 use label::find_bearer;
 use line::index::IndexPart;
 use line::index::read_indices;
-use line::shape::Shape;
-use line::shape::shape_of;
 use line::value::ValueText;
 use line::value::read_value;
 use parameter::Parameter;
 use parameter::ParameterFound;
 use parameter::named;
 use room::table::Module;
+use shape::Shape;
+use shape::shape_of;
 ghost use mathlib.Core.Bool.{true};
 ghost use mathlib.Core.Path.{_≡_};
 ghost use lib.IntN.{pos};
@@ -24,9 +24,9 @@ ghost use Rattle.values.specs.Values.{valuesSound};
 ghost use Rattle.line.specs.IndexPart.{readIndices};
 ghost use Rattle.meaning.specs.Meaning.{getOf, inRoom, indexed, meaning, ofShape, putOf};
 ghost use Rattle.meaning.specs.Meaning.Reading.{Holds, aim};
-ghost use Rattle.line.specs.Shape.{part};
+ghost use Rattle.shape.specs.Shape.{part};
 ghost use Rattle.line.specs.Value.{readValue};
-ghost use Rattle.line.specs.declared.shape.Shape.the-variants as shape;
+ghost use Rattle.shape.specs.declared.Shape.the-variants as shape;
 
 // A code that the line is answered with, a parameter to tell, or a parameter and the value it is set to.
 pub enum Meaning {

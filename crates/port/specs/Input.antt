@@ -11,7 +11,7 @@ use mir.Syntax.{w64}
 use mir.Val.{Fits}
 use Rattle.room.specs.Table.{sound}
 use Rattle.values.specs.Values.{valuesSound}
-use Rattle.line.specs.Shape.{lineLimit}
+use Rattle.shape.specs.Shape.{lineLimit}
 use Rattle.stream.specs.Stream.{Serves}
 use Rattle.stream.specs.Stream.Laws.{serves-right, serves-size, serves-some, serves-long}
 use Rattle.serial_port.specs.declared.port.Port.{Port}

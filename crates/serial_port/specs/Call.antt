@@ -14,7 +14,7 @@ use lib.Seq.{sets}
 use Rattle.text.specs.Cut.{has, indexOf, before}
 use Rattle.room.specs.Table.{sound}
 use Rattle.values.specs.Values.{valuesSound}
-use Rattle.line.specs.Shape.{lineLimit}
+use Rattle.shape.specs.Shape.{lineLimit}
 use Rattle.reply.specs.Reply.{nak}
 use Rattle.answer.specs.Answer.{Answer, answer}
 use Rattle.serial_port.specs.Port.{View, held, over, view, fresh, join}

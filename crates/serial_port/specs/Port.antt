@@ -7,7 +7,7 @@ use mathlib.Core.List.{List, [], _++_}
 use Prim.Native.Nat.{ℕ, _≤_}
 use lib.Dec.{leb}
 use lib.ListN.{length, take}
-use Rattle.line.specs.Shape.{lineLimit}
+use Rattle.shape.specs.Shape.{lineLimit}
 use Rattle.serial_port.specs.declared.port.Port.{Port}
 
 -- an overrun port reads on as overrun with any held bytes, and what is stored past the held bytes does not count

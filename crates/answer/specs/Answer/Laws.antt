@@ -14,7 +14,7 @@ use Rattle.values.specs.Values.Laws.{set-sound}
 use Rattle.label.specs.declared.Bearer.the-variants.{Only}
 use Rattle.parameter.specs.declared.Parameter.{Parameter}
 use Rattle.parameter.specs.declared.ParameterFound.the-variants.{At}
-use Rattle.line.specs.Shape.{part}
+use Rattle.shape.specs.Shape.{part}
 use Rattle.meaning.specs.Meaning.{meaning}
 use Rattle.meaning.specs.Meaning.Laws.{Puts, Gets, names-place, names-label, put-told, get-told}
 use Rattle.reply.specs.Reply.{ack, nak, getReply}

@@ -13,7 +13,7 @@ use Rattle.values.specs.Values.{valuesSound}
 use Rattle.values.specs.Values.Laws.{value-permitted}
 use Rattle.label.specs.declared.Bearer.the-variants.{Only}
 use Rattle.parameter.specs.declared.Parameter.{Parameter}
-use Rattle.line.specs.Shape.{part}
+use Rattle.shape.specs.Shape.{part}
 use Rattle.meaning.specs.Meaning.{meaning}
 use Rattle.meaning.specs.Meaning.Laws.{Gets, names-label, get-told}
 use Rattle.reply.specs.Reply.{ack, nak, getReply}

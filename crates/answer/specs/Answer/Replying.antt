@@ -23,9 +23,9 @@ use Rattle.label.specs.declared.Bearer.the-variants.{Only, NotOne}
 use Rattle.parameter.specs.declared.Parameter.{Parameter}
 use Rattle.parameter.specs.declared.ParameterFound.{ParameterFound}
 use Rattle.parameter.specs.declared.ParameterFound.the-variants.{At, Nothing}
-use Rattle.line.specs.Shape.{part, shape}
-use Rattle.line.specs.declared.shape.Shape.{Shape}
-use Rattle.line.specs.declared.shape.Shape.the-variants as shape
+use Rattle.shape.specs.Shape.{part, shape}
+use Rattle.shape.specs.declared.Shape.{Shape}
+use Rattle.shape.specs.declared.Shape.the-variants as shape
 use Rattle.line.specs.declared.index.IndexPart.{IndexPart}
 use Rattle.line.specs.declared.value.ValueText.{ValueText}
 use Rattle.line.specs.declared.value.ValueText.the-variants as value

@@ -24,14 +24,14 @@ use Rattle.room.specs.Table.{labelRight, sound}
 use Rattle.label.specs.declared.Bearer.the-variants.{Only}
 use Rattle.parameter.specs.declared.Parameter.{Parameter}
 use Rattle.parameter.specs.declared.ParameterFound.the-variants.{At}
-use Rattle.line.specs.Shape.{shape, part}
-use Rattle.line.specs.Shape.Laws.{setLine, set-line-length, set-line-shape, set-line-label, set-line-indices, set-line-text}
+use Rattle.shape.specs.Shape.{shape, part}
+use Rattle.shape.specs.Shape.Laws.{setLine, set-line-length, set-line-shape, set-line-label, set-line-indices, set-line-text}
 use Rattle.line.specs.IndexPart.{readIndices}
 use Rattle.line.specs.IndexPart.Laws.{indices-back, indices-lack}
 use Rattle.line.specs.Value.Laws.{Valued}
 use Rattle.meaning.specs.Meaning.Laws.{Names, Puts}
 use Rattle.name.specs.Name.{indexText}
-use Rattle.line.specs.declared.shape.Shape.the-variants as shape
+use Rattle.shape.specs.declared.Shape.the-variants as shape
 use Rattle.name.specs.Name.Measuring.{indices-short}
 
 -- p is a parameter of the sound table t, and its module alone bears its label

@@ -12,8 +12,8 @@ use Rattle.parameter.specs.Parameters.{place}
 use Rattle.parameter.specs.Parameters.Named.{named-told}
 use Rattle.room.specs.Table.{sound}
 use Rattle.parameter.specs.declared.Parameter.{Parameter}
-use Rattle.line.specs.Shape.{part}
-use Rattle.line.specs.Shape.Laws.{set-line-length, set-ordered}
+use Rattle.shape.specs.Shape.{part}
+use Rattle.shape.specs.Shape.Laws.{set-line-length, set-ordered}
 use Rattle.line.specs.IndexPart.Laws.{indices-shortest}
 use Rattle.line.specs.Value.Texts.{text-shortest}
 use Rattle.meaning.specs.Meaning.{meaning}

@@ -9,7 +9,7 @@ use lib.ListN.{length, getD, set, length-append}
 use Rattle.parameter.specs.Parameters.{parameters, place, parameterAt}
 use Rattle.parameter.specs.declared.Parameter.{Parameter}
 use Rattle.parameter.specs.declared.ParameterFound.the-variants.{At}
-use Rattle.line.specs.Shape.{lineLimit}
+use Rattle.shape.specs.Shape.{lineLimit}
 use Rattle.answer.specs.Answer.{answer}
 use Rattle.serial_port.specs.Play.Laws.{Right}
 use Rattle.demand.specs.Listing.{Change, changesOf, lineOf, listing}

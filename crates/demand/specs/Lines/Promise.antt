@@ -12,7 +12,7 @@ use Rattle.room.specs.Table.{sound}
 use Rattle.parameter.specs.Parameters.{place}
 use Rattle.parameter.specs.Parameters.Places.{at-place}
 use Rattle.parameter.specs.declared.Parameter.{Parameter}
-use Rattle.line.specs.Shape.{lineLimit}
+use Rattle.shape.specs.Shape.{lineLimit}
 use Rattle.meaning.specs.Meaning.{meaning}
 use Rattle.answer.specs.Answer.Laws as line
 use Rattle.answer.specs.Answer.Laws.{put-puttable}

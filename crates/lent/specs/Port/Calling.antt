@@ -9,7 +9,7 @@ use lib.Dec.{eqb}
 use lib.IntN.{ℤ}
 use lib.ListN.{length}
 use Rattle.answer.specs.Answer.{answer}
-use Rattle.line.specs.Shape.{lineLimit}
+use Rattle.shape.specs.Shape.{lineLimit}
 use Rattle.serial_port.specs.Port.{View, view}
 use Rattle.serial_port.specs.Call.{Answers, Handed, Step, call, callNumber, step, tell, tells}
 use Rattle.serial_port.specs.Call.Serving.{test-held}

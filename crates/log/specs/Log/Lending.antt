@@ -14,7 +14,7 @@ use Rattle.label.specs.declared.Bearer.{Bearer}
 use Rattle.label.specs.declared.Bearer.the-variants.{Only, NotOne}
 use Rattle.log.specs.Log.{firstQuote, secondQuote, shown, logPart, partOf, partShown, logLabel}
 use Rattle.log.specs.Log.Showing.{label-room}
-use Rattle.line.specs.Shape.{firstFrom, part}
+use Rattle.shape.specs.Shape.{firstFrom, part}
 use Rattle.log.specs.declared.LogPart.{LogPart}
 use Rattle.log.specs.declared.LogPart.the-variants.{Table, Line, Nothing}
 

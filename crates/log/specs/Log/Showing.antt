@@ -19,7 +19,7 @@ use Rattle.label.specs.declared.Bearer.the-variants.{Only, NotOne}
 use Rattle.room.specs.declared.table.Module.{Module}
 use Rattle.log.specs.Log.{firstQuote, secondQuote, shown, logPart}
 use Rattle.name.specs.Name.Writing.{label-short}
-use Rattle.line.specs.Shape.{firstFrom, part}
+use Rattle.shape.specs.Shape.{firstFrom, part}
 use Rattle.log.specs.declared.LogPart.{LogPart}
 use Rattle.log.specs.declared.LogPart.the-variants.{Table, Line, Nothing}
 use Rattle.text.specs.Cut.Laws.{index-within}

@@ -19,13 +19,13 @@ use Rattle.room.specs.declared.table.Module.{Module}
 use Rattle.parameter.specs.declared.Parameter.{Parameter}
 use Rattle.parameter.specs.declared.ParameterFound.{ParameterFound}
 use Rattle.parameter.specs.declared.ParameterFound.the-variants.{At, Nothing}
-use Rattle.line.specs.Shape.{shape, part}
+use Rattle.shape.specs.Shape.{shape, part}
 use Rattle.line.specs.IndexPart.{readIndices}
 use Rattle.line.specs.Value.{readValue}
 use Rattle.line.specs.Value.Laws.{Valued, value-told, value-back}
 use Rattle.meaning.specs.Meaning.{indexed, Target, target, code, inModule, inRoom, putOf, getOf, setOf, ofShape, meaning}
-use Rattle.line.specs.declared.shape.Shape.{Shape}
-use Rattle.line.specs.declared.shape.Shape.the-variants as shape
+use Rattle.shape.specs.declared.Shape.{Shape}
+use Rattle.shape.specs.declared.Shape.the-variants as shape
 use Rattle.line.specs.declared.index.IndexPart.{IndexPart}
 use Rattle.line.specs.declared.index.IndexPart.the-variants as index
 use Rattle.line.specs.declared.value.ValueText.{ValueText}

@@ -22,9 +22,9 @@ use Rattle.room.specs.declared.table.Module.{Module}
 use Rattle.parameter.specs.declared.Parameter.{Parameter}
 use Rattle.parameter.specs.declared.ParameterFound.{ParameterFound}
 use Rattle.parameter.specs.declared.ParameterFound.the-variants.{At, Nothing}
-use Rattle.line.specs.Shape.{shape, part}
-use Rattle.line.specs.Shape.Laws.{set-ordered}
-use Rattle.line.specs.Shape.Reading.{get-ordered}
+use Rattle.shape.specs.Shape.{shape, part}
+use Rattle.shape.specs.Shape.Laws.{set-ordered}
+use Rattle.shape.specs.Shape.Reading.{get-ordered}
 use Rattle.line.specs.IndexPart.{readIndices}
 use Rattle.line.specs.Value.{readValue}
 use Rattle.line.specs.Value.Laws.{value-told}
@@ -33,8 +33,8 @@ use Rattle.meaning.specs.Meaning.{indexed, Target, target, code, inModul
 use Rattle.meaning.specs.Meaning.Laws.{names-told, names-place}
 use Rattle.meaning.specs.declared.Target as declared
 use Rattle.meaning.specs.declared.Target.the-variants as aimed
-use Rattle.line.specs.declared.shape.Shape.{Shape}
-use Rattle.line.specs.declared.shape.Shape.the-variants as shape
+use Rattle.shape.specs.declared.Shape.{Shape}
+use Rattle.shape.specs.declared.Shape.the-variants as shape
 use Rattle.line.specs.declared.index.IndexPart.{IndexPart}
 use Rattle.line.specs.declared.index.IndexPart.the-variants as index
 use Rattle.line.specs.declared.value.ValueText.{ValueText}

@@ -11,7 +11,7 @@ use lib.Seq.{sets, sets-eq, take-at}
 use Rattle.text.specs.Cut.{has, indexOf, before}
 use Rattle.room.specs.Table.{sound}
 use Rattle.values.specs.Values.{valuesSound}
-use Rattle.line.specs.Shape.{lineLimit}
+use Rattle.shape.specs.Shape.{lineLimit}
 use Rattle.reply.specs.Reply.{nak}
 use Rattle.answer.specs.Answer.{answer}
 use Rattle.answer.specs.Answer.Replies.{reply-limit}

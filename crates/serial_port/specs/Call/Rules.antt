@@ -10,7 +10,7 @@ use lib.Seq.{sets}
 use Rattle.text.specs.Cut.{has, indexOf, before}
 use Rattle.room.specs.Table.{sound}
 use Rattle.values.specs.Values.{valuesSound}
-use Rattle.line.specs.Shape.{lineLimit}
+use Rattle.shape.specs.Shape.{lineLimit}
 use Rattle.answer.specs.Answer.{answer}
 use Rattle.serial_port.specs.Port.{view, fresh, join}
 use Rattle.serial_port.specs.Call.{finish, replied, waiting, replyLimit, callNumber, tell, call, tells, Answers}

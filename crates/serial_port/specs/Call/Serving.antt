@@ -16,7 +16,7 @@ use mir.Val.{Fits}
 use Rattle.text.specs.Cut.{indexOf, has, before}
 use Rattle.room.specs.Table.{sound}
 use Rattle.values.specs.Values.{valuesSound}
-use Rattle.line.specs.Shape.{lineLimit}
+use Rattle.shape.specs.Shape.{lineLimit}
 use Rattle.answer.specs.Answer.{answer}
 use Rattle.serial_port.specs.Port.{view, fresh}
 use Rattle.serial_port.specs.Port.Collecting.{Collects}

@@ -9,7 +9,7 @@ use lib.ListN.{length, take, drop}
 use lib.Seq.{sets, drop-length}
 use Rattle.text.specs.Cut.{has, indexOf, before, after}
 use Rattle.room.specs.Table.{sound}
-use Rattle.line.specs.Shape.{lineLimit}
+use Rattle.shape.specs.Shape.{lineLimit}
 use Rattle.answer.specs.Answer.{answer}
 use Rattle.serial_port.specs.Port.{view, fresh, join}
 use Rattle.serial_port.specs.Port.Laws.{claim-view, claim-join}

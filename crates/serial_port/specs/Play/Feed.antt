@@ -9,7 +9,7 @@ use lib.Dec.{eqb, leb·suc-suc}
 use lib.IntN.{ℤ}
 use lib.ListN.{length}
 use Rattle.text.specs.Cut.{has, indexOf, before, after}
-use Rattle.line.specs.Shape.{lineLimit}
+use Rattle.shape.specs.Shape.{lineLimit}
 use Rattle.reply.specs.Reply.{nak}
 use Rattle.answer.specs.Answer.{Answer}
 use Rattle.serial_port.specs.Port.{View, fresh, claim, join}

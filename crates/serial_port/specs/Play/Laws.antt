@@ -8,7 +8,7 @@ use lib.IntN.{ℤ}
 use lib.ListN.{length, length-drop}
 use lib.Seq.{drop-length}
 use Rattle.text.specs.Cut.{has, before, after}
-use Rattle.line.specs.Shape.{lineLimit}
+use Rattle.shape.specs.Shape.{lineLimit}
 use Rattle.answer.specs.Answer.{answer}
 use Rattle.answer.specs.Answer.Laws.{values-stay-sound}
 use Rattle.room.specs.Table.{sound}

@@ -7,7 +7,7 @@ use native.Mathlib.Omega.{arith}
 use lib.ListN.{length, take, drop, length-append}
 use lib.Seq.{sets, sets-eq, take-at, length-take-le}
 use Rattle.written.specs.Written.{Wrote}
-use Rattle.line.specs.Shape.{lineLimit}
+use Rattle.shape.specs.Shape.{lineLimit}
 use Rattle.serial_port.specs.Port.{view, held, fit, join}
 use Rattle.serial_port.specs.Port.Laws.{fit-short, fit-long}
 use Rattle.serial_port.specs.declared.port.Port.{Port}

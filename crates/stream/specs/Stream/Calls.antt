@@ -14,7 +14,7 @@ use Rattle.text.specs.Cut.{has, indexOf, before}
 use Rattle.written.specs.Written.{Wrote}
 use Rattle.room.specs.Table.{sound}
 use Rattle.values.specs.Values.{valuesSound}
-use Rattle.line.specs.Shape.{lineLimit}
+use Rattle.shape.specs.Shape.{lineLimit}
 use Rattle.answer.specs.Answer.{answer}
 use Rattle.serial_port.specs.Port.{View, view, claim, join}
 use Rattle.serial_port.specs.Port.Laws.{join-nothing, join-join, claim-join}

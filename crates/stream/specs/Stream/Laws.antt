@@ -8,7 +8,7 @@ use lib.ListN.{length, take}
 use Rattle.written.specs.Written.Laws.{wrote-length}
 use Rattle.room.specs.Table.{sound}
 use Rattle.values.specs.Values.{valuesSound}
-use Rattle.line.specs.Shape.{lineLimit}
+use Rattle.shape.specs.Shape.{lineLimit}
 use Rattle.answer.specs.Answer.{answer}
 use Rattle.serial_port.specs.Port.{view}
 use Rattle.serial_port.specs.Port.Laws.{claim-view}

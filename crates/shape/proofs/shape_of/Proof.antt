@@ -1,8 +1,8 @@
 -- `shape_of`: each return is a rule of the verb.
 use borrow.Author.Needs.{needs}
-use Rattle.line.specs.Shape.Reading.{shape-rules}
-use Rattle.line.proofs.shape.shape_of.Statement.{statement}
-use Rattle.line.proofs.shape.shape_of.Tie as tie
+use Rattle.shape.specs.Shape.Reading.{shape-rules}
+use Rattle.shape.proofs.shape_of.Statement.{statement}
+use Rattle.shape.proofs.shape_of.Tie as tie
 
 pub shape-of-spec : {M : Type 1} → statement M
 shape-of-spec =

@@ -9,8 +9,8 @@ use lib.Dec.{eqb, ltb}
 use lib.ListN.{length, getD, take, drop}
 use Rattle.text.specs.Cut.{indexOf}
 use Rattle.label.specs.Label.{same}
-use Rattle.line.specs.declared.shape.Shape.{Shape}
-use Rattle.line.specs.declared.shape.Shape.the-variants.{Malformed, Get, Set}
+use Rattle.shape.specs.declared.Shape.{Shape}
+use Rattle.shape.specs.declared.Shape.the-variants.{Malformed, Get, Set}
 
 -- a line has at most 64 bytes
 unfoldable pub lineLimit : ℕ

@@ -12,9 +12,9 @@ use lib.Seq.{take-at, take-length, drop-append-add}
 use Rattle.text.specs.Cut.{indexOf}
 use Rattle.text.specs.Cut.Lacking.{index-joined}
 use Rattle.label.specs.Label.{same}
-use Rattle.line.specs.Shape.{lineLimit, isSet, isGet, opening, firstFrom, closing, equals, getShape, setShape, quoted, shape, part}
-use Rattle.line.specs.declared.shape.Shape.{Shape}
-use Rattle.line.specs.declared.shape.Shape.the-variants.{Malformed, Set}
+use Rattle.shape.specs.Shape.{lineLimit, isSet, isGet, opening, firstFrom, closing, equals, getShape, setShape, quoted, shape, part}
+use Rattle.shape.specs.declared.Shape.{Shape}
+use Rattle.shape.specs.declared.Shape.the-variants.{Malformed, Set}
 
 -- ---- what a set line's shape tells
 

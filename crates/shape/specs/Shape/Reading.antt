@@ -12,14 +12,14 @@ use mir.Syntax.{w64}
 use mir.Val.{Fits}
 use Rattle.text.specs.Cut.{indexOf}
 use Rattle.label.specs.Label.{same}
-use Rattle.line.specs.Shape.{lineLimit, isSet, isGet, opening, firstFrom, closing, equals, getShape, setShape, quoted, shape}
-use Rattle.line.specs.Shape.Quotes.{Between, no-place, quotes, quotes-at, quotes-missing}
-use Rattle.line.specs.declared.shape.Quotes.{Quotes}
-use Rattle.line.specs.declared.shape.Quotes.the-variants.{At, Missing}
-use Rattle.line.specs.declared.shape.Shape.{Shape}
-use Rattle.line.specs.declared.shape.Shape.the-variants.{Malformed, Get, Set}
+use Rattle.shape.specs.Shape.{lineLimit, isSet, isGet, opening, firstFrom, closing, equals, getShape, setShape, quoted, shape}
+use Rattle.shape.specs.Shape.Quotes.{Between, no-place, quotes, quotes-at, quotes-missing}
+use Rattle.shape.specs.declared.Quotes.{Quotes}
+use Rattle.shape.specs.declared.Quotes.the-variants.{At, Missing}
+use Rattle.shape.specs.declared.Shape.{Shape}
+use Rattle.shape.specs.declared.Shape.the-variants.{Malformed, Get, Set}
 use Rattle.text.specs.Cut.Laws.{index-within}
-use Rattle.line.specs.Shape.Laws.{after-verb}
+use Rattle.shape.specs.Shape.Laws.{after-verb}
 
 -- ---- a byte sought from a place on
 

@@ -1,8 +1,8 @@
 -- `get_shape`: both quotes are there, or one is missing.
 use borrow.Author.Needs.{needs}
-use Rattle.line.specs.Shape.Quotes.{get-rules}
-use Rattle.line.proofs.shape.get_shape.Statement.{statement}
-use Rattle.line.proofs.shape.get_shape.Tie as tie
+use Rattle.shape.specs.Shape.Quotes.{get-rules}
+use Rattle.shape.proofs.get_shape.Statement.{statement}
+use Rattle.shape.proofs.get_shape.Tie as tie
 
 pub get-shape-spec : {M : Type 1} → statement M
 get-shape-spec =

@@ -1,8 +1,8 @@
 -- `opening`: behind a space, or right behind the verb.
 use borrow.Author.Needs.{needs}
-use Rattle.line.specs.Shape.Reading.{opening-rules}
-use Rattle.line.proofs.shape.opening.Statement.{statement}
-use Rattle.line.proofs.shape.opening.Tie as tie
+use Rattle.shape.specs.Shape.Reading.{opening-rules}
+use Rattle.shape.proofs.opening.Statement.{statement}
+use Rattle.shape.proofs.opening.Tie as tie
 
 pub opening-spec : {M : Type 1} → statement M
 opening-spec =

@@ -1,8 +1,8 @@
 -- `set_shape`: both quotes are there, and a `=` behind them.
 use borrow.Author.Needs.{needs}
-use Rattle.line.specs.Shape.Quotes.{set-rules}
-use Rattle.line.proofs.shape.set_shape.Statement.{statement}
-use Rattle.line.proofs.shape.set_shape.Tie as tie
+use Rattle.shape.specs.Shape.Quotes.{set-rules}
+use Rattle.shape.proofs.set_shape.Statement.{statement}
+use Rattle.shape.proofs.set_shape.Tie as tie
 
 pub set-shape-spec : {M : Type 1} → statement M
 set-shape-spec =

@@ -1,8 +1,8 @@
 -- `find_quotes`: each return is a rule of the two quotes.
 use borrow.Author.Needs.{needs}
-use Rattle.line.specs.Shape.Quotes.{quotes-rules}
-use Rattle.line.proofs.shape.find_quotes.Statement.{statement}
-use Rattle.line.proofs.shape.find_quotes.Tie as tie
+use Rattle.shape.specs.Shape.Quotes.{quotes-rules}
+use Rattle.shape.proofs.find_quotes.Statement.{statement}
+use Rattle.shape.proofs.find_quotes.Tie as tie
 
 pub find-quotes-spec : {M : Type 1} → statement M
 find-quotes-spec =

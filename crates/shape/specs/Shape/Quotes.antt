@@ -9,11 +9,11 @@ use lib.Dec.{eqb, ltb}
 use lib.ListN.{length, getD, List·getD-eq-default}
 use mir.Syntax.{w64}
 use mir.Val.{Fits}
-use Rattle.line.specs.Shape.{opening, firstFrom, closing, equals, getShape, setShape, quoted}
-use Rattle.line.specs.declared.shape.Quotes.{Quotes}
-use Rattle.line.specs.declared.shape.Quotes.the-variants.{At, Missing}
-use Rattle.line.specs.declared.shape.Shape.{Shape}
-use Rattle.line.specs.declared.shape.Shape.the-variants.{Malformed, Get, Set}
+use Rattle.shape.specs.Shape.{opening, firstFrom, closing, equals, getShape, setShape, quoted}
+use Rattle.shape.specs.declared.Quotes.{Quotes}
+use Rattle.shape.specs.declared.Quotes.the-variants.{At, Missing}
+use Rattle.shape.specs.declared.Shape.{Shape}
+use Rattle.shape.specs.declared.Shape.the-variants.{Malformed, Get, Set}
 
 unfoldable pub quotes : List ℕ → Quotes
 quotes line =

@@ -1,8 +1,8 @@
 -- `find_from`: a place in the rest, counted from the start.
 use borrow.Author.Needs.{needs}
-use Rattle.line.specs.Shape.Reading.{from-rules}
-use Rattle.line.proofs.shape.find_from.Statement.{statement}
-use Rattle.line.proofs.shape.find_from.Tie as tie
+use Rattle.shape.specs.Shape.Reading.{from-rules}
+use Rattle.shape.proofs.find_from.Statement.{statement}
+use Rattle.shape.proofs.find_from.Tie as tie
 
 pub find-from-spec : {M : Type 1} → statement M
 find-from-spec =

@@ -1,0 +1,2 @@
+-- The shape of a line: where its parts stand.
+pub mod Shape
