@@ -82,9 +82,6 @@ module _ (t : List ℕ) (vs : List ℤ) (bs out : List ℕ) where
 
 pub ruleset answering = (answering-start, written-within, written-part, answering-next, answered-part, answered-all, answering-fits, answering-less)
 
-pub answered-none : (t : List ℕ) (vs : List ℤ) (p : Port) → valuesSound t vs ≡ true → p .len ≤ 64 → Kept t vs p
-answered-none t vs p r k = record { right = r; few = k }
-
 -- ---- read after read
 
 pub record Reads (t : List ℕ) (vs : List ℤ) (input out : List ℕ) (vs′ : List ℤ) (input′ out′ : List ℕ) (q : Port) : Type 0 where

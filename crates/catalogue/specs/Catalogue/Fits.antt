@@ -7,10 +7,9 @@ use lib.Dec.{ltb}
 use lib.ListN.{length}
 use lib.Signed.{mag}
 use Rattle.text.specs.Every.{both-left, both-right, every, every-at}
-use Rattle.catalogue.specs.Catalogue.{catalogue, known, level, minus, number, rowsOf, switch}
+use Rattle.catalogue.specs.Catalogue.{catalogue, level, minus, number, switch}
 use Rattle.catalogue.specs.Catalogue.Each.{entryTest}
-use Rattle.catalogue.specs.Catalogue.Laws.{in-run, run-within}
-use Rattle.catalogue.specs.Catalogue.Rules.{entryAt, noEntry, rowOf}
+use Rattle.catalogue.specs.Catalogue.Rules.{entryAt, noEntry}
 use Rattle.row.specs.Row.Laws.{RowFits}
 use Rattle.row.specs.declared.Row.{Row}
 
@@ -34,6 +33,3 @@ catalogue-fits = refl
 pub entry-fits : (n : ℕ) → n < length catalogue → RowFits (entryAt n .row)
 unfolding entryAt
 entry-fits n h = row-fits _ (every-at (entryTest fits) catalogue noEntry catalogue-fits n h)
-
-pub row-of-fits : (kind j : ℕ) → known kind ≡ true → j < length (rowsOf kind) → RowFits (rowOf kind j)
-row-of-fits kind j k h = rw (in-run kind j k h) (entry-fits _ (run-within kind j _ k h refl))

@@ -1,6 +1,5 @@
 -- A module and indices name a parameter: which one, and each by its own row's indices.
 use mathlib.Core.Path.{_≡_, refl, ap, sym, _∙_}
-use mathlib.Core.Logic.{_⊎_}
 use mathlib.Core.Bool.{Bool, true, false, cond}
 use mathlib.Core.List.{List, [], _∷_}
 use Prim.Native.Nat.{ℕ, zero, suc, _+_}
@@ -12,13 +11,10 @@ use Rattle.catalogue.specs.Catalogue.Distinct.{rowsDiffer, type-distinct}
 use Rattle.catalogue.specs.Catalogue.Sized.{sizedRow, type-sized}
 use Rattle.row.specs.Row.{sameIndices}
 use Rattle.row.specs.Row.Comparing.{same-indices, same-indices-refl}
-use Rattle.label.specs.Label.{bearer, label}
-use Rattle.label.specs.Label.Laws.{bearer-own}
-use Rattle.parameter.specs.Parameters.{numbered, parameters, parametersOf, parameterAt, withIndices, named}
-use Rattle.parameter.specs.Parameters.Places.{found-same, never-found, at-numbered, at-place}
+use Rattle.parameter.specs.Parameters.{numbered, parametersOf, parameterAt, withIndices, named}
+use Rattle.parameter.specs.Parameters.Places.{found-same, never-found, at-numbered}
 use Rattle.row.specs.declared.Indices.{Indices}
 use Rattle.row.specs.declared.Row.{Row}
-use Rattle.label.specs.declared.Bearer.the-variants.{Only, NotOne}
 use Rattle.room.specs.declared.table.Module.{Module}
 use Rattle.parameter.specs.declared.Parameter.{Parameter}
 use Rattle.parameter.specs.declared.ParameterFound.the-variants.{At}
@@ -89,10 +85,3 @@ named-back m j p e = with-indices-back m 0 (rowsOf (m .kind)) j p (type-distinct
 pub row-sized : (m : Module) (j : ℕ) (p : Parameter) → parameterAt (parametersOf m) j ≡ At p → sizedRow (p .row) ≡ true
 unfolding parametersOf
 row-sized m j p e = row-at sizedRow m 0 (rowsOf (m .kind)) j p (type-sized (m .kind)) e
-
--- ---- its module's label
-
--- is borne by its module alone, or not by one module alone
-pub parameter-bearer : (t : List ℕ) (k : ℕ) (p : Parameter) → parameterAt (parameters t) k ≡ At p
-    → (bearer t (label t (p .owner)) ≡ NotOne) ⊎ (bearer t (label t (p .owner)) ≡ Only (p .owner))
-parameter-bearer t k p e = let h = at-place t k p e in bearer-own t (h .module-number) (p .owner) (h .among)

@@ -62,6 +62,3 @@ label-no-quote s e = label-without 34 (λ p. p .unquoted refl) s (label-right s 
 
 pub label-no-return : (s : List ℕ) → labelRight s ≡ true → indexOf 13 s ≡ length s
 label-no-return s e = label-without 13 (λ p. omega arith) s (label-right s e .each)
-
-pub label-no-zero : (s : List ℕ) → labelRight s ≡ true → indexOf 0 s ≡ length s
-label-no-zero s e = label-without 0 (λ p. omega arith) s (label-right s e .each)

@@ -10,7 +10,7 @@ use Rattle.text.specs.Cut.{before, indexOf}
 use Rattle.catalogue.specs.Catalogue.{known, rowsOf}
 use Rattle.text.specs.Every.{both-left, both-right, every}
 use Rattle.room.specs.Table.{bodyLength, bodySound, fieldSound, isZero, labelRight, moduleAt, modules, sound}
-use Rattle.room.specs.Table.Walk.{Walk, modulesAt, modules-end, modules-next, modules-start, walk-body, walk-few, walk-induction, walk-known, walk-room, walk-start}
+use Rattle.room.specs.Table.Walk.{Walk, modulesAt, modules-end, modules-next, modules-start, walk-body, walk-induction, walk-known, walk-room, walk-start}
 use Rattle.room.specs.declared.table.Module.{Module}
 use Rattle.room.specs.declared.table.ModuleFound.the-variants.{At, Nothing}
 
@@ -92,6 +92,3 @@ module-known t n m h = rw (h .kinds) (walk-known t (m .number) (m .place) (m .fi
 
 pub module-room : (t : List ℕ) (n : ℕ) (m : Module) → ModuleIn t n m → m .place + 33 ≤ length t
 module-room t n m h = omega (arith, record-room t (m .number) (m .place) (m .first) (h .walk) (h .inside))
-
-pub module-few : (t : List ℕ) (n : ℕ) (m : Module) → ModuleIn t n m → n < 64
-module-few t n m h = omega (arith, walk-few t (m .number) (m .place) (m .first) (h .walk) (h .inside), h .numbered)

@@ -15,8 +15,8 @@ use Rattle.shape.specs.Shape.{lineLimit}
 use Rattle.reply.specs.Reply.{nak}
 use Rattle.answer.specs.Answer.{answer}
 use Rattle.answer.specs.Answer.Replies.{reply-limit}
-use Rattle.serial_port.specs.Port.{View, held, over, view, Same, claim, join}
-use Rattle.serial_port.specs.Port.Laws.{claim-view, join-nothing, same-seen, seen-same}
+use Rattle.serial_port.specs.Port.{View, held, over, Same, claim, join}
+use Rattle.serial_port.specs.Port.Laws.{join-nothing, same-seen, seen-same}
 use Rattle.serial_port.specs.Call.{Answering, step, replied, waiting, finish, replyLimit, callNumber, call, Handed}
 use Rattle.serial_port.specs.declared.port.Port.{Port}
 
@@ -31,10 +31,6 @@ pub refused-alike : (t : List ℕ) (vs : List ℤ) (replyRoom claimed other : �
     → callNumber t vs replyRoom claimed ≡ callNumber t vs replyRoom other
 unfolding callNumber
 refused-alike t vs replyRoom claimed other h k = rw (le-leb claimed lineLimit h, le-leb other lineLimit k) refl
-
-pub number-view : (t : List ℕ) (vs : List ℤ) (replyRoom : ℕ) (p : Port) → p .len ≤ lineLimit
-    → callNumber t vs replyRoom (p .len) ≡ callNumber t vs replyRoom (claim (view p))
-number-view t vs replyRoom p h = refused-alike t vs replyRoom (p .len) (claim (view p)) h (claim-view p h)
 
 -- the two kinds of call
 pub step-finishes : (answer : Answering) (vs : List ℤ) (v : View) (bs : List ℕ) → has 0x0D bs ≡ true

@@ -58,9 +58,6 @@ eqb-shift a b c h = go (eqb (a - c) b) refl
     go true e = eq-eqb a (c + b) (let f = eqb-true (a - c) b e in omega arith) ∙ sym e
     go false e = ne-eqb a (c + b) (λ f. eqb-false (a - c) b e (omega arith)) ∙ sym e
 
-and-swap : (a b c : Bool) → b ≡ true → (a && (b && c)) ≡ (a && c)
-and-swap a b c e = rw e
-
 module _ (ps qs : List Parameter) (vs : List ℤ) where
   fit-short : length vs < length ps → fit (ps ++ qs) vs ≡ false
   fit-short h = rw (ne-eqb (length vs) (length (ps ++ qs)) (λ e. let f = length-append ps qs in absurd (omega arith)))
