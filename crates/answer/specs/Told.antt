@@ -20,7 +20,7 @@ use Rattle.label.specs.declared.Bearer.the-variants.{Only}
 use Rattle.parameter.specs.declared.Parameter.{Parameter}
 use Rattle.parameter.specs.declared.ParameterFound.the-variants.{At}
 use Rattle.line.specs.Value.{readKind}
-use Rattle.line.specs.Value.Texts.{reply-back, reply-short, reply-lacks}
+use Rattle.answer.specs.Said.Texts.{reply-back, reply-short, reply-lacks}
 use Rattle.meaning.specs.Meaning.{meaning}
 use Rattle.meaning.specs.Meaning.Laws.{puts-back}
 use Rattle.name.specs.Name.{name}

@@ -1,18 +1,16 @@
 // The library's calls for C: each is thin over the proved library, and none asks anything of its caller.
 use lent::port_lent;
-use lent::port_of;
-use lent::store;
 use lent::tell_three;
 use lent::tell_two;
 use log::LogPart;
 use log::log_part;
+use port_call::call_port;
 use restore::restore;
 use room::table::check;
-ghost use mathlib.Core.Bool.{true};
 ghost use mathlib.Core.Path.{_≡_};
 ghost use Rattle.room.specs.Table.{tableNumber};
 ghost use Rattle.capi.specs.Log.{logAnswer, logTells};
-ghost use Rattle.lent.specs.Port.{PortCalled, portLent};
+ghost use Rattle.lent.specs.Port.{PortCalled};
 ghost use Rattle.capi.specs.Restore.{restoreAnswer, restoreTells};
 
 // Whether a table is sound: 0, or the refusal's number, 1.
@@ -21,27 +19,6 @@ pub extern "C" fn egrivundo_table(table: &[u8]) -> u8
     ensures { λ r. ⌜ r ≡ tableNumber (now (table .entry)) ⌝ }
 {
     check(table)
-}
-
-// The port call on a port and on counts that are lent rightly.
-fn call_port(
-    table: &[u8],
-    values: &mut [i64],
-    port: &mut [u8],
-    given: &[u8],
-    reply: &mut [u8],
-    told: &mut [u64],
-) -> u8
-    requires { ⌜ portLent (now port) (now told) ≡ true ⌝ }
-    ensures { λ r. ⌜ PortCalled (now (table .entry)) (now (values .entry)) (now (port .entry)) (now (given .entry)) (now (reply .entry)) (now (told .entry)) r (now (values .exit)) (now (port .exit)) (now (reply .exit)) (now (told .exit)) ⌝ }
-{
-    let called = port_of(port).take(table, values, given, reply);
-    tell_two(told, called.consumed as u64, called.length as u64);
-    if called.number != 0 {
-        return called.number;
-    }
-    store(port, called.port);
-    0
 }
 
 // The port call: the port is 66 bytes, and `told` becomes the bytes consumed and the reply's length.

@@ -1,5 +1,4 @@
 -- The index part: one or two groups, each `>` and one to three decimal digits.
-pub mod Laws
 pub mod Reading
 use mathlib.Core.Bool.{cond}
 use mathlib.Core.List.{List, [], _∷_}

@@ -18,7 +18,7 @@ use Rattle.label.specs.declared.Bearer.the-variants.{Only}
 use Rattle.parameter.specs.declared.Parameter.{Parameter}
 use Rattle.parameter.specs.declared.ParameterFound.the-variants.{At}
 use Rattle.shape.specs.Shape.Laws.{setLine}
-use Rattle.line.specs.Value.Texts.{text-back, text-short, text-lacks}
+use Rattle.answer.specs.Said.Texts.{text-back, text-short, text-lacks}
 use Rattle.meaning.specs.Meaning.{meaning}
 use Rattle.meaning.specs.Meaning.Laws.{puts-back}
 use Rattle.name.specs.Name.{name}

@@ -27,7 +27,7 @@ use Rattle.parameter.specs.declared.ParameterFound.the-variants.{At}
 use Rattle.shape.specs.Shape.{shape, part}
 use Rattle.shape.specs.Shape.Laws.{setLine, set-line-length, set-line-shape, set-line-label, set-line-indices, set-line-text}
 use Rattle.line.specs.IndexPart.{readIndices}
-use Rattle.line.specs.IndexPart.Laws.{indices-back, indices-lack}
+use Rattle.answer.specs.Said.Indices.{indices-back, indices-lack}
 use Rattle.line.specs.Value.Laws.{Valued}
 use Rattle.meaning.specs.Meaning.Laws.{Names, Puts}
 use Rattle.name.specs.Name.{indexText}

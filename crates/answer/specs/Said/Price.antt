@@ -14,8 +14,8 @@ use Rattle.room.specs.Table.{sound}
 use Rattle.parameter.specs.declared.Parameter.{Parameter}
 use Rattle.shape.specs.Shape.{part}
 use Rattle.shape.specs.Shape.Laws.{set-line-length, set-ordered}
-use Rattle.line.specs.IndexPart.Laws.{indices-shortest}
-use Rattle.line.specs.Value.Texts.{text-shortest}
+use Rattle.answer.specs.Said.Indices.{indices-shortest}
+use Rattle.answer.specs.Said.Texts.{text-shortest}
 use Rattle.meaning.specs.Meaning.{meaning}
 use Rattle.meaning.specs.Meaning.Laws.{Names, put-told}
 use Rattle.name.specs.Name.{indexText}

@@ -1,8 +1,8 @@
 -- `call_port`: the call on the port that the bytes say, and its port stored.
 use borrow.Author.Needs.{needs}
 use Rattle.lent.specs.Port.Calling.{calling}
-use Rattle.capi.proofs.call_port.Statement.{statement}
-use Rattle.capi.proofs.call_port.Tie as tie
+use Rattle.port_call.proofs.call_port.Statement.{statement}
+use Rattle.port_call.proofs.call_port.Tie as tie
 
 pub call-port-spec : {M : Type 1} → statement M
 call-port-spec =
