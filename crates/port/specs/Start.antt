@@ -1,20 +1,16 @@
 -- Rules for the code that starts the program: a table that was tested, and the start values over it.
-use mathlib.Core.Path.{_≡_, sym, _∙_, ap}
-use mathlib.Core.Bool.{Bool, true, false, not}
+use mathlib.Core.Path.{_≡_, sym, ap}
+use mathlib.Core.Bool.{true}
 use mathlib.Core.List.{List}
 use Prim.Native.Nat.{ℕ, _≤_}
 use native.Mathlib.Omega.{arith}
-use borrow.Author.Tests.{not-false}
 use lib.IntN.{ℤ}
 use lib.ListN.{length, take, drop, length-append}
 use lib.Seq.{length-take-le, take-at}
 use Rattle.room.specs.Table.{sound}
 use Rattle.values.specs.Values.{Started, starts, valuesSound}
 use Rattle.values.specs.Values.Right.{starts-few, starts-right}
-
--- a test that was passed
-pub test-held : (b s : Bool) → b ≡ s → not b ≡ false → s ≡ true
-test-held b s e n = sym e ∙ not-false b n
+use Rattle.serial_port.specs.Call.Serving.{test-held}
 
 pub part-counts : (l : List ℕ) (n : ℕ) → n ≤ length l → n ≡ length (take n l)
 part-counts l n h = sym (length-take-le n l h)
