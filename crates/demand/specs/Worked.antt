@@ -14,7 +14,8 @@ use Rattle.text.specs.Switch.{switchText}
 use Rattle.catalogue.specs.Catalogue.{minus, level, switch, number, catalogue, known, rowsIn, rowsOf}
 use Rattle.text.specs.Every.{both-left, both-right, every}
 use Rattle.row.specs.Row.{permitted}
-use Rattle.room.specs.Table.{labelByte, labelRight, isZero, fieldSound, bodyLength, bodySound, recordsSound, recordLimit, sound, modulesFrom, modules}
+use Rattle.room.specs.Table.{bodyLength, bodySound, recordsSound, recordLimit, sound, modulesFrom, modules}
+use Rattle.field.specs.Field.{labelByte, labelRight, isZero, fieldSound}
 use Rattle.label.specs.Label.{label, same, bearersIn, exactlyOne, bearer}
 use Rattle.parameter.specs.Parameters.{numbered, parametersOf, parametersIn, parameters}
 use Rattle.values.specs.Values.{eachPermitted, valuesSound, equal}

@@ -1,8 +1,8 @@
 // Labels.
 use catalogue::rows::row_count;
+use field::label_right;
 use room::table::Module;
 use room::table::body_length;
-use room::table::label_right;
 use text::cut::find;
 ghost use mathlib.Core.Bool.{true};
 ghost use mathlib.Core.Path.{_≡_};

@@ -1,39 +1,19 @@
 -- The module table: records of one byte of kind and a body whose length the kind fixes.
-pub mod Bytes
 pub mod Checked
-pub mod Every
 pub mod Modules
 pub mod Reached
 pub mod Rules
-pub mod Run
-pub mod Tally
 pub mod Walk
-use mathlib.Core.Bool.{Bool, true, false, cond, not, _&&_}
+use mathlib.Core.Bool.{Bool, true, false, cond, _&&_}
 use mathlib.Core.List.{List, [], _∷_}
 use Prim.Native.Nat.{ℕ, zero, suc, _+_}
-use lib.Dec.{eqb, leb}
+use lib.Dec.{eqb}
 use lib.ListN.{length, take, drop}
-use Rattle.text.specs.Cut.{indexOf, before}
-use Rattle.text.specs.Every.{every}
 use Rattle.catalogue.specs.Catalogue.{known, rowsOf}
+use Rattle.field.specs.Field.{fieldSound}
 use Rattle.room.specs.declared.table.Module.{Module}
 use Rattle.room.specs.declared.table.ModuleFound.{ModuleFound}
 use Rattle.room.specs.declared.table.ModuleFound.the-variants.{At, Nothing}
-
--- a label's byte: from 0x20 to 0x7E and no quote
-unfoldable pub labelByte : ℕ → Bool
-labelByte b = leb 0x20 b && leb b 0x7E && not (eqb b 0x22)
-
--- a label has 1 to 32 bytes
-unfoldable pub labelRight : List ℕ → Bool
-labelRight s = leb 1 (length s) && leb (length s) 32 && every labelByte s
-
-unfoldable pub isZero : ℕ → Bool
-isZero b = eqb b 0
-
--- a label's field: the label and then zero bytes
-unfoldable pub fieldSound : List ℕ → Bool
-fieldSound f = labelRight (before 0 f) && every isZero (drop (indexOf 0 f) f)
 
 -- how long a kind's body is
 unfoldable pub bodyLength : ℕ → ℕ

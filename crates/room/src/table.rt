@@ -1,11 +1,10 @@
 // The module table.
 use catalogue::rows::row_count;
+use field::field_sound;
 ghost use mathlib.Core.Bool.{true};
 ghost use mathlib.Core.Path.{_≡_};
 ghost use Rattle.catalogue.specs.Catalogue.{known};
-ghost use Rattle.room.specs.Table.{bodyLength, bodySound, fieldSound, isZero, labelByte, labelRight, moduleAt, modules, sound, tableNumber};
-ghost use Rattle.room.specs.Table.Run.{run};
-ghost use Rattle.room.specs.Table.Tally.{tally};
+ghost use Rattle.room.specs.Table.{bodyLength, bodySound, moduleAt, modules, sound, tableNumber};
 
 // How many records a table may have.
 pub const MODULES: usize = 64;
@@ -39,84 +38,6 @@ pub fn body_length(kind: u8) -> usize
     ensures { λ r. ⌜ r ≡ bodyLength kind ⌝ }
 {
     32
-}
-
-// Whether a byte may stand in a label.
-fn label_byte(b: u8) -> bool
-    ensures { λ r. ⌜ r ≡ labelByte b ⌝ }
-{
-    if 0x22 < b {
-        return b <= 0x7E;
-    }
-    if b < 0x20 {
-        return false;
-    }
-    b != 0x22
-}
-
-// Whether a text may be a label.
-pub fn label_right(text: &[u8]) -> bool
-    ensures { λ r. ⌜ r ≡ labelRight (now (text .entry)) ⌝ }
-{
-    if text.len() < 1 {
-        return false;
-    }
-    if 32 < text.len() {
-        return false;
-    }
-    let mut i = 0;
-    while i < text.len() {
-        if !label_byte(text[i]) {
-            return false;
-        }
-        i += 1;
-    }
-    true
-}
-
-// How many bytes of a field are zero.
-fn zero_count(field: &[u8]) -> usize
-    ensures { λ r. ⌜ r ≡ tally isZero (now (field .entry)) ⌝ }
-{
-    let mut count = 0;
-    let mut i = 0;
-    while i < field.len() {
-        let b = field[i];
-        i += 1;
-        if b != 0 {
-            continue;
-        }
-        count += 1;
-    }
-    count
-}
-
-// How many bytes at the beginning of a field may stand in a label.
-fn label_run(field: &[u8]) -> usize
-    ensures { λ r. ⌜ r ≡ run labelByte (now (field .entry)) ⌝ }
-{
-    let mut i = 0;
-    while i < field.len() {
-        if !label_byte(field[i]) {
-            return i;
-        }
-        i += 1;
-    }
-    i
-}
-
-// Whether a field holds a label and then zero bytes.
-fn field_sound(field: &[u8]) -> bool
-    ensures { λ r. ⌜ r ≡ fieldSound (now (field .entry)) ⌝ }
-{
-    let end = label_run(field);
-    if end < 1 {
-        return false;
-    }
-    if 32 < end {
-        return false;
-    }
-    zero_count(field) == field.len() - end
 }
 
 // Whether a body is sound for its kind.

@@ -14,13 +14,14 @@ use Rattle.text.specs.Every.{both-left}
 use Rattle.catalogue.specs.Catalogue.Sized.{sizedIndices, sizedBounds, sizedRow}
 use Rattle.label.specs.Label.{label, bearer}
 use Rattle.label.specs.Label.Laws.{bearer-found}
-use Rattle.room.specs.Table.Bytes.{label-right, label-no-quote, label-no-return}
+use Rattle.field.specs.Field.Bytes.{label-right, label-no-quote, label-no-return}
 use Rattle.parameter.specs.Parameters.{parameters, parametersOf, parameterAt, place}
 use Rattle.parameter.specs.Parameters.Places.{at-place}
 use Rattle.parameter.specs.Parameters.Named.{named-back, row-sized}
 use Rattle.row.specs.Row.{permitted}
 use Rattle.catalogue.specs.Catalogue.Sized.{Sized, permitted-sized}
-use Rattle.room.specs.Table.{labelRight, sound}
+use Rattle.room.specs.Table.{sound}
+use Rattle.field.specs.Field.{labelRight}
 use Rattle.label.specs.declared.Bearer.the-variants.{Only}
 use Rattle.parameter.specs.declared.Parameter.{Parameter}
 use Rattle.parameter.specs.declared.ParameterFound.the-variants.{At}

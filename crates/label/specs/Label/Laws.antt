@@ -7,7 +7,8 @@ use Prim.Native.Nat.{ℕ, zero, suc, _+_, _≤_}
 use native.Mathlib.Omega.{arith}
 use lib.ListN.{length}
 use Rattle.catalogue.specs.Catalogue.{known}
-use Rattle.room.specs.Table.{labelRight, moduleAt, modules, sound}
+use Rattle.room.specs.Table.{moduleAt, modules, sound}
+use Rattle.field.specs.Field.{labelRight}
 use Rattle.room.specs.Table.Modules.{ModuleIn, at-first, at-none, at-others, module-in, module-known, module-room, record-label}
 use Rattle.label.specs.Label.{bearer, bearersIn, exactlyOne, label, same}
 use Rattle.label.specs.Label.Match.{same-refl, same-true}

@@ -10,9 +10,9 @@ use lib.ListN.{length, getD, take, drop, length-take, length-drop, List·getD-eq
 use lib.Seq.{drop-cons, getD-drop, getD-take, length-take-le, take-take}
 use Rattle.text.specs.Cut.{before, indexOf}
 use Rattle.text.specs.Every.{both-left, both-right, every}
-use Rattle.room.specs.Table.{labelByte, labelRight}
+use Rattle.field.specs.Field.{labelByte, labelRight}
 use Rattle.label.specs.Label.{same}
-use Rattle.room.specs.Table.Bytes.{label-byte, label-right}
+use Rattle.field.specs.Field.Bytes.{label-byte, label-right}
 use Rattle.text.specs.Cut.Laws.{index-within}
 
 -- ---- the comparison byte for byte

@@ -9,11 +9,12 @@ use lib.Dec.{eqb}
 use lib.ListN.{length, getD, take, drop, drop-of-length-le, length-take}
 use Rattle.text.specs.Cut.{before}
 use Rattle.catalogue.specs.Catalogue.{rowsOf}
-use Rattle.room.specs.Table.{bodyLength, labelRight, sound}
+use Rattle.room.specs.Table.{bodyLength, sound}
+use Rattle.field.specs.Field.{labelRight}
 use Rattle.room.specs.Table.Modules.{record-label, record-room}
 use Rattle.room.specs.Table.Walk.{Walk, modulesAt, modules-end, modules-next, modules-start, walk-induction, walk-next, walk-start}
 use Rattle.label.specs.Label.{bearer, bearersIn, exactlyOne, label, same}
-use Rattle.room.specs.Table.Bytes.{label-right}
+use Rattle.field.specs.Field.Bytes.{label-right}
 use Rattle.label.specs.Label.Match.{Compared, compared-next, differs, longer, matches, same-not, same-refl}
 use Rattle.room.specs.declared.table.Module.{Module}
 use Rattle.label.specs.declared.Bearer.{Bearer}

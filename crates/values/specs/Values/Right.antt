@@ -16,7 +16,8 @@ use Rattle.row.specs.declared.Row.{Row}
 use Rattle.parameter.specs.Parameters.{parameterAt, parameters, parametersIn}
 use Rattle.parameter.specs.Parameters.Each.{every-parameter}
 use Rattle.parameter.specs.Parameters.Laws.{length-parametersOf}
-use Rattle.room.specs.Table.{bodyLength, bodySound, fieldSound, modules, modulesFrom, recordLimit, recordsSound, sound}
+use Rattle.room.specs.Table.{bodyLength, bodySound, modules, modulesFrom, recordLimit, recordsSound, sound}
+use Rattle.field.specs.Field.{fieldSound}
 use Rattle.values.specs.Values.{eachPermitted, starts, startsOf, valuesSound}
 use Rattle.values.specs.Values.Starting.{length-starts}
 use Rattle.parameter.specs.declared.Parameter.{Parameter}

@@ -1,8 +1,8 @@
 -- `field_sound`: the bytes that may stand in a label, and as many zero bytes as are left.
 use borrow.Author.Needs.{needs}
-use Rattle.room.specs.Table.Run.{fields}
-use Rattle.room.proofs.table.field_sound.Statement.{statement}
-use Rattle.room.proofs.table.field_sound.Tie as tie
+use Rattle.field.specs.Field.Run.{fields}
+use Rattle.field.proofs.field_sound.Statement.{statement}
+use Rattle.field.proofs.field_sound.Tie as tie
 
 pub field-sound-spec : {M : Type 1} → statement M
 field-sound-spec =

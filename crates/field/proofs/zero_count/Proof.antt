@@ -2,9 +2,9 @@
 use Prim.Native.Nat.{_-_}
 use borrow.Author.Needs.{needs}
 use lib.ListN.{length}
-use Rattle.room.specs.Table.Tally.{Tallied, tallying}
-use Rattle.room.proofs.table.zero_count.Statement.{statement}
-use Rattle.room.proofs.table.zero_count.Tie as tie
+use Rattle.field.specs.Field.Tally.{Tallied, tallying}
+use Rattle.field.proofs.zero_count.Statement.{statement}
+use Rattle.field.proofs.zero_count.Tie as tie
 
 abbrev Inv-loop : tie.InvT-loop
 Inv-loop field count₀ i₀ count i = Tallied field count i

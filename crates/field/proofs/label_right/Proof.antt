@@ -1,13 +1,12 @@
 -- `label_right`: the length first, and then each byte.
 use Prim.Native.Nat.{_-_}
 use borrow.Author.Needs.{needs}
-use borrow.Author.Needs.{needs}
 use lib.ListN.{length}
-use Rattle.room.specs.Table.Every.{Passed}
-use Rattle.room.specs.Table.Rules.{labels}
-use Rattle.room.specs.Table.{labelByte}
-use Rattle.room.proofs.table.label_right.Statement.{statement}
-use Rattle.room.proofs.table.label_right.Tie as tie
+use Rattle.field.specs.Field.Every.{Passed}
+use Rattle.field.specs.Field.Rules.{labels}
+use Rattle.field.specs.Field.{labelByte}
+use Rattle.field.proofs.label_right.Statement.{statement}
+use Rattle.field.proofs.label_right.Tie as tie
 
 abbrev Inv-loop : tie.InvT-loop
 Inv-loop text i₀ i = Passed labelByte text 0 i

@@ -10,7 +10,7 @@ use lib.Dec.{eqb}
 use lib.ListN.{length, getD, drop, drop-of-length-le}
 use lib.Seq.{drop-cons}
 use Rattle.text.specs.Every.{every}
-use Rattle.room.specs.Table.{isZero}
+use Rattle.field.specs.Field.{isZero}
 
 unfoldable pub tally : (ℕ → Bool) → List ℕ → ℕ
 tally test [] = 0

@@ -9,7 +9,7 @@ use lib.Dec.{eqb, leb}
 use lib.ListN.{length, getD}
 use Rattle.text.specs.Cut.{indexOf}
 use Rattle.text.specs.Every.{both-left, both-right, every}
-use Rattle.room.specs.Table.{labelByte, labelRight}
+use Rattle.field.specs.Field.{labelByte, labelRight}
 
 pub record Printed (b : ℕ) : Type 0 where
   pub low : 32 ≤ b

@@ -2,10 +2,10 @@
 use Prim.Native.Nat.{_-_}
 use borrow.Author.Needs.{needs}
 use lib.ListN.{length}
-use Rattle.room.specs.Table.{labelByte}
-use Rattle.room.specs.Table.Run.{Running, running}
-use Rattle.room.proofs.table.label_run.Statement.{statement}
-use Rattle.room.proofs.table.label_run.Tie as tie
+use Rattle.field.specs.Field.{labelByte}
+use Rattle.field.specs.Field.Run.{Running, running}
+use Rattle.field.proofs.label_run.Statement.{statement}
+use Rattle.field.proofs.label_run.Tie as tie
 
 abbrev Inv-loop : tie.InvT-loop
 Inv-loop field i₀ i = Running labelByte field i

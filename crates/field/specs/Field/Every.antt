@@ -8,7 +8,6 @@ use native.Mathlib.Omega.{arith}
 use lib.ListN.{length, getD, drop, drop-of-length-le}
 use lib.Seq.{drop-cons}
 use Rattle.text.specs.Every.{every}
-use Rattle.room.specs.Table.{}
 
 -- from a place on, the bytes before i meet the test
 pub record Passed (test : ℕ → Bool) (s : List ℕ) (from i : ℕ) : Type 0 where

@@ -1,8 +1,8 @@
 -- `label_byte`: above the quote, too low, and then whether it is the quote.
 use borrow.Author.Needs.{needs}
-use Rattle.room.specs.Table.Rules.{labels}
-use Rattle.room.proofs.table.label_byte.Statement.{statement}
-use Rattle.room.proofs.table.label_byte.Tie as tie
+use Rattle.field.specs.Field.Rules.{labels}
+use Rattle.field.proofs.label_byte.Statement.{statement}
+use Rattle.field.proofs.label_byte.Tie as tie
 
 pub label-byte-spec : {M : Type 1} → statement M
 label-byte-spec =

@@ -11,10 +11,10 @@ use lib.ListN.{length, getD, take, drop, drop-of-length-le, length-drop}
 use lib.Seq.{drop-cons, length-take-le}
 use Rattle.text.specs.Cut.{before, indexOf}
 use Rattle.text.specs.Every.{both-left, both-right, every}
-use Rattle.room.specs.Table.Bytes.{Right, label-byte, label-right}
-use Rattle.room.specs.Table.{fieldSound, isZero, labelByte, labelRight}
+use Rattle.field.specs.Field.Bytes.{Right, label-byte, label-right}
+use Rattle.field.specs.Field.{fieldSound, isZero, labelByte, labelRight}
 use Rattle.text.specs.Cut.Laws.{index-within}
-use Rattle.room.specs.Table.Tally.{tally, tally-every}
+use Rattle.field.specs.Field.Tally.{tally, tally-every}
 
 -- how many bytes at the beginning meet a test
 unfoldable pub run : (ℕ → Bool) → List ℕ → ℕ

@@ -1,0 +1,63 @@
+-- What the tests of a label leave, for each of their answers.
+use mathlib.Core.Path.{_≡_, refl, sym, _∙_}
+use mathlib.Core.Bool.{Bool, true, false, not, _&&_}
+use mathlib.Core.List.{List}
+use Prim.Native.Nat.{ℕ, _+_, _≤_, _<_}
+use native.Mathlib.Omega.{arith}
+use borrow.Author.Tests.{ne-eqb, le-leb, lt-leb, not-true, not-false}
+use lib.Dec.{eqb, leb}
+use lib.ListN.{length, getD}
+use Rattle.field.specs.Field.{labelByte, labelRight}
+use Rattle.field.specs.Field.Every.{Passed, passed-start, passed-next, passed-not, passed-all}
+
+-- ---- a byte of a label
+
+pub byte-low : (b : ℕ) → b < 32 → false ≡ labelByte b
+unfolding labelByte
+byte-low b l = rw (lt-leb 32 b l)
+
+pub byte-high : (b : ℕ) → 34 < b → leb b 126 ≡ labelByte b
+unfolding labelByte
+byte-high b l =
+    let n : not (eqb b 34) ≡ true = rw (ne-eqb b 34 (λ e. omega arith)) refl in
+    rw (le-leb 32 b (omega arith), n) (and-true (leb b 126))
+  where
+    and-true : (t : Bool) → t ≡ (t && true)
+    and-true true = refl
+    and-true false = refl
+
+pub byte-quote : (b : ℕ) → 32 ≤ b → b ≤ 34 → not (eqb b 34) ≡ labelByte b
+unfolding labelByte
+byte-quote b l h = rw (le-leb 32 b l, le-leb b 126 (omega arith))
+
+-- ---- a label
+
+-- shorter than a bound of at most 1, or longer than one of at least 32
+pub label-short : (s : List ℕ) (k : ℕ) → k ≤ 1 → length s < k → false ≡ labelRight s
+unfolding labelRight
+label-short s k b l = rw (lt-leb 1 (length s) (omega arith))
+
+pub label-long : (s : List ℕ) (k : ℕ) → 32 ≤ k → k < length s → false ≡ labelRight s
+unfolding labelRight
+label-long s k b l = rw (le-leb 1 (length s) (omega arith), lt-leb (length s) 32 (omega arith))
+
+pub label-next : (s : List ℕ) (i : ℕ) (t : Bool) → Passed labelByte s 0 i → i < length s → t ≡ labelByte (getD s i 0) → not t ≡ false
+    → Passed labelByte s 0 (i + 1)
+label-next s i t p l e n = passed-next labelByte s 0 i p l (sym e ∙ not-false t n)
+
+pub label-not : (s : List ℕ) (i : ℕ) (t : Bool) → Passed labelByte s 0 i → i < length s → t ≡ labelByte (getD s i 0) → not t ≡ true
+    → false ≡ labelRight s
+unfolding labelRight
+label-not s i t p l e n =
+    let a = passed-not labelByte s 0 i p l (sym e ∙ not-true t n) in
+    rw (← a) (neither (leb 1 (length s) && leb (length s) 32))
+  where
+    neither : (b : Bool) → false ≡ (b && false)
+    neither true = refl
+    neither false = refl
+
+pub label-all : (s : List ℕ) (i : ℕ) → 1 ≤ length s → length s ≤ 32 → Passed labelByte s 0 i → length s ≤ i → true ≡ labelRight s
+unfolding labelRight
+label-all s i a b p l = rw (le-leb 1 (length s) a, le-leb (length s) 32 b) (passed-all labelByte s 0 i p l)
+
+pub ruleset labels = (byte-low, byte-high, byte-quote, passed-start, label-short, label-long, label-next, label-not, label-all)
