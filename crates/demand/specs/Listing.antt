@@ -61,16 +61,26 @@ unfoldable pub allReachable : (table : List ℕ) → List Change → Bool
 allReachable t [] = true
 allReachable t (c ∷ cs) = reachable t (c .parameter) && allReachable t cs
 
+-- 5 the selection is wrong, 6 the wanted list is wrong
+unfoldable pub wishNumber : (table selection : List ℕ) → (wanted : List ℤ) → ℕ
+wishNumber t selection ws = cond (selectionRight t selection) (cond (wantedRight t selection ws) 0 6) 5
+
+-- 1 the table is not sound, 2 the values are wrong, then 5 and 6
+unfoldable pub testNumber : Wish → ℕ
+testNumber w = cond (sound (w .table)) (cond (valuesSound (w .table) (w .present)) (wishNumber (w .table) (w .selection) (w .wanted)) 2) 1
+
 -- 7 a wanted change is beyond reach, 8 the list is longer than its buffer
 unfoldable pub listNumber : (table : List ℕ) → (room : ℕ) → List Change → ℕ
 listNumber t room cs = cond (allReachable t cs) (cond (leb (length (listing t cs)) room) 0 8) 7
 
--- the lowest number that applies, 0 where none does: 1 the table is not sound, 2 the values are wrong,
--- 5 the selection is wrong, 6 the wanted list is wrong, 7, 8
+-- the first number, or where it is 0 the other one
+unfoldable pub firstOf : ℕ → ℕ → ℕ
+firstOf zero n = n
+firstOf (suc m) n = suc m
+
+-- the lowest number that applies, 0 where none does: 1, 2, 5 and 6, which are tested before the list, then 7 and 8
 unfoldable pub restoreNumber : Wish → (room : ℕ) → ℕ
-restoreNumber w room =
-    cond (sound (w .table)) (cond (valuesSound (w .table) (w .present)) (cond (selectionRight (w .table) (w .selection))
-    (cond (wantedRight (w .table) (w .selection) (w .wanted)) (listNumber (w .table) room (changes w)) 6) 5) 2) 1
+restoreNumber w room = firstOf (testNumber w) (listNumber (w .table) room (changes w))
 
 -- what the call tells, and what it leaves in the list buffer
 pub record Told : Type 0 where

@@ -25,7 +25,7 @@ use Rattle.answer.specs.Answer.{answer}
 use Rattle.answer.specs.Worked as reading
 use Rattle.answer.specs.Worked.{oneByteRecord, tableA, zeros, bytes}
 use Rattle.wish.specs.Target.{atMostOne, selectionRight, chosen, chosenPermitted, wantedRight, targetOf, target}
-use Rattle.demand.specs.Listing.{changesOf, changes, lineOf, listing, borneOnce, reachable, allReachable, listNumber, restoreNumber, Told, tell, restore}
+use Rattle.demand.specs.Listing.{changesOf, changes, lineOf, listing, borneOnce, reachable, allReachable, wishNumber, testNumber, listNumber, firstOf, restoreNumber, Told, tell, restore}
 
 -- a restore call: the modules chosen, the wanted values, and the buffer's length; what it tells, and the lines that it writes
 pub record Case : Type 0 where
@@ -87,7 +87,7 @@ unfolding allShown shown agrees called lists four wishes ended bytes tableA oneB
     labelByte labelRight isZero fieldSound bodyLength bodySound recordsSound recordLimit sound modulesFrom modules
     label same bearersIn exactlyOne bearer numbered parametersOf parametersIn parameters eachPermitted valuesSound
     indexText name setText say atMostOne selectionRight chosen chosenPermitted wantedRight targetOf target equal
-    changesOf changes lineOf listing borneOnce reachable allReachable listNumber restoreNumber tell restore
+    changesOf changes lineOf listing borneOnce reachable allReachable wishNumber testNumber listNumber firstOf restoreNumber tell restore
 lists-shown = refl
 
 lines-shown : (cs : List reading.Case) (rest : List Worked) → allShown rest ≡ true → reading.eachAnswered cs ≡ true → allShown (map line cs ++ rest) ≡ true

@@ -1,26 +1,19 @@
 -- The tests that come before the list: their numbers, lowest first, and 0 where every test is passed.
 use mathlib.Core.Path.{_≡_, refl, sym, _∙_}
-use mathlib.Core.Bool.{Bool, true, false, cond, not}
+use mathlib.Core.Bool.{Bool, true, false, not}
 use mathlib.Core.List.{List}
-use Prim.Native.Nat.{ℕ}
+use Prim.Native.Nat.{ℕ, zero, suc}
 use native.Mathlib.Omega.{arith}
 use borrow.Author.Tests.{not-false, not-true}
 use lib.IntN.{ℤ}
 use Rattle.room.specs.Table.{sound}
 use Rattle.values.specs.Values.{valuesSound}
 use Rattle.wish.specs.Target.{Wish, selectionRight, wantedRight}
-use Rattle.demand.specs.Listing.{restoreNumber}
+use Rattle.demand.specs.Listing.{changes, firstOf, listNumber, restoreNumber, testNumber, wishNumber}
 use Rattle.demand.specs.Demand.{Admitted}
 use Rattle.measure.specs.Measuring.Walk.{wishOf}
 
--- 5 the selection is wrong, 6 the wanted list is wrong
-unfoldable pub wishNumber : (table selection : List ℕ) → (wanted : List ℤ) → ℕ
-wishNumber t selection ws = cond (selectionRight t selection) (cond (wantedRight t selection ws) 0 6) 5
-
--- 1 the table is not sound, 2 the values are wrong
-unfoldable pub testNumber : Wish → ℕ
-testNumber w = cond (sound (w .table)) (cond (valuesSound (w .table) (w .present)) (wishNumber (w .table) (w .selection) (w .wanted)) 2) 1
-
+-- where every test is passed, the wish is admitted
 pub test-admits : (w : Wish) → testNumber w ≡ 0 → Admitted w
 unfolding testNumber wishNumber
 test-admits w h =
@@ -37,18 +30,12 @@ test-admits w h =
 
 -- a test that fails gives the call its number
 pub test-refuses : (w : Wish) (room : ℕ) → (testNumber w ≡ 0 → ⊥) → restoreNumber w room ≡ testNumber w
-unfolding testNumber wishNumber restoreNumber
-test-refuses w room h =
-    go (sound (w .table)) (valuesSound (w .table) (w .present)) (selectionRight (w .table) (w .selection))
-    (wantedRight (w .table) (w .selection) (w .wanted)) refl refl refl refl
+unfolding restoreNumber firstOf
+test-refuses w room h = go (testNumber w) h
   where
-    go : (a b c d : Bool) → sound (w .table) ≡ a → valuesSound (w .table) (w .present) ≡ b → selectionRight (w .table) (w .selection) ≡ c
-        → wantedRight (w .table) (w .selection) (w .wanted) ≡ d → restoreNumber w room ≡ testNumber w
-    go false b c d e f g i = rw e refl
-    go true false c d e f g i = rw (e, f) refl
-    go true true false d e f g i = rw (e, f, g) refl
-    go true true true false e f g i = rw (e, f, g, i) refl
-    go true true true true e f g i = absurd (h (rw (e, f, g, i) refl))
+    go : (n : ℕ) → (n ≡ 0 → ⊥) → firstOf n (listNumber (w .table) room (changes w)) ≡ n
+    go zero h = absurd (h refl)
+    go (suc n) h = refl
 
 -- ---- rules: each test in its turn
 

@@ -13,7 +13,7 @@ ghost use mathlib.Core.Bool.{true};
 ghost use mathlib.Core.Path.{_≡_};
 ghost use Rattle.room.specs.Table.{sound};
 ghost use Rattle.demand.specs.Demand.{Admitted, Restores};
-ghost use Rattle.restore.specs.Testing.{testNumber, wishNumber};
+ghost use Rattle.demand.specs.Listing.{testNumber, wishNumber};
 
 // What a refused call answers.
 fn refused(number: u8) -> Restored

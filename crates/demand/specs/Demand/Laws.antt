@@ -26,7 +26,7 @@ use Rattle.demand.specs.Lines.{Lines}
 use Rattle.demand.specs.Lines.Promise.{promise}
 use Rattle.demand.specs.Lines.Reach.{Stays, keeps-unreachable}
 use Rattle.demand.specs.Lines.Price.{potential, lowers, price-reached, price-listing}
-use Rattle.demand.specs.Listing.{changes, listing, allReachable, listNumber, restoreNumber, tell, restore}
+use Rattle.demand.specs.Listing.{changes, listing, allReachable, wishNumber, testNumber, listNumber, firstOf, restoreNumber, tell, restore}
 use Rattle.demand.specs.Listing.Beyond.{beyond}
 use Rattle.demand.specs.Listing.Numbers.{number-list}
 use Rattle.demand.specs.Listing.Counted.{lines-differing}
@@ -131,7 +131,7 @@ restores w buffer r buffer′ e = record { told = e; demand = rw e (demand-three
 -- a call that is refused with none of 1, 2, 5 and 6
 pub admitted-late : (w : Wish) (room : ℕ) → (restoreNumber w room ≡ 1 → ⊥) → (restoreNumber w room ≡ 2 → ⊥) → (restoreNumber w room ≡ 5 → ⊥)
     → (restoreNumber w room ≡ 6 → ⊥) → Admitted w
-unfolding restoreNumber
+unfolding restoreNumber testNumber wishNumber firstOf
 admitted-late w room not-one not-two not-five not-six =
     go (sound (w .table)) (valuesSound (w .table) (w .present)) (selectionRight (w .table) (w .selection))
     (wantedRight (w .table) (w .selection) (w .wanted)) refl refl refl refl

@@ -7,31 +7,31 @@ use lib.ListN.{length}
 use Rattle.room.specs.Table.{sound}
 use Rattle.values.specs.Values.{valuesSound}
 use Rattle.wish.specs.Target.{Wish, selectionRight, wantedRight}
-use Rattle.demand.specs.Listing.{changes, listing, allReachable, listNumber, restoreNumber}
+use Rattle.demand.specs.Listing.{changes, listing, allReachable, wishNumber, testNumber, listNumber, firstOf, restoreNumber}
 
 module _ (w : Wish) (room : ℕ) where
   pub number-table : sound (w .table) ≡ false → restoreNumber w room ≡ 1
-  unfolding restoreNumber
+  unfolding restoreNumber testNumber wishNumber firstOf
   number-table a = rw a refl
 
   pub number-present : sound (w .table) ≡ true → valuesSound (w .table) (w .present) ≡ false → restoreNumber w room ≡ 2
-  unfolding restoreNumber
+  unfolding restoreNumber testNumber wishNumber firstOf
   number-present a b = rw (a, b) refl
 
   pub number-selection : sound (w .table) ≡ true → valuesSound (w .table) (w .present) ≡ true → selectionRight (w .table) (w .selection) ≡ false
       → restoreNumber w room ≡ 5
-  unfolding restoreNumber
+  unfolding restoreNumber testNumber wishNumber firstOf
   number-selection a b c = rw (a, b, c) refl
 
   pub number-wanted : sound (w .table) ≡ true → valuesSound (w .table) (w .present) ≡ true → selectionRight (w .table) (w .selection) ≡ true
       → wantedRight (w .table) (w .selection) (w .wanted) ≡ false → restoreNumber w room ≡ 6
-  unfolding restoreNumber
+  unfolding restoreNumber testNumber wishNumber firstOf
   number-wanted a b c d = rw (a, b, c, d) refl
 
   -- none of these applies
   pub number-list : sound (w .table) ≡ true → valuesSound (w .table) (w .present) ≡ true → selectionRight (w .table) (w .selection) ≡ true
       → wantedRight (w .table) (w .selection) (w .wanted) ≡ true → restoreNumber w room ≡ listNumber (w .table) room (changes w)
-  unfolding restoreNumber
+  unfolding restoreNumber testNumber wishNumber firstOf
   number-list a b c d = rw (a, b, c, d) refl
 
   pub list-unreachable : allReachable (w .table) (changes w) ≡ false → listNumber (w .table) room (changes w) ≡ 7
