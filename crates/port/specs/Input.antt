@@ -1,31 +1,49 @@
--- Rules for the code that answers the input: the values stay right, and the port claims at most 64 bytes.
-use mathlib.Core.Path.{_≡_, refl, sym, _∙_}
-use mathlib.Core.Bool.{true}
+-- Rules for the code that answers the input: what is read is fed to the port byte by byte, and the values stay right.
+use mathlib.Core.Path.{_≡_, refl, sym, ap, _∙_}
+use mathlib.Core.Bool.{true, false, true≢false}
 use mathlib.Core.List.{List}
 use Prim.Native.Nat.{ℕ, _+_, _-_, _≤_, _<_}
 use native.Mathlib.Omega.{arith}
+use borrow.Rule.Slice.PartAt.{part-to-end}
 use lib.IntN.{ℤ}
 use lib.ListN.{length, take, drop, length-take, length-drop}
-use lib.Seq.{length-take-le}
+use lib.Seq.{length-take-le, take-all}
 use mir.Syntax.{w64}
 use mir.Val.{Fits}
 use Rattle.room.specs.Table.{sound}
 use Rattle.values.specs.Values.{valuesSound}
 use Rattle.shape.specs.Shape.{lineLimit}
-use Rattle.stream.specs.Stream.{Serves}
+use Rattle.serial_port.specs.Port.{view}
+use Rattle.serial_port.specs.Play.{ended}
+use Rattle.serial_port.specs.Play.Feed.{followed}
+use Rattle.stream.specs.Stream.{flow, Serves}
+use Rattle.stream.specs.Stream.Flow.{flow-nothing, flow-more}
 use Rattle.stream.specs.Stream.Laws.{serves-right, serves-size, serves-some, serves-long}
 use Rattle.serial_port.specs.declared.port.Port.{Port}
 use Rattle.stream.specs.declared.Served.{Served}
+use Rattle.port.specs.declared.input.Answered.{Answered}
 
--- what answering leaves: right values, and a port that claims at most 64 bytes
+-- right values, and a port that claims at most 64 bytes
 pub record Kept (t : List ℕ) (vs : List ℤ) (q : Port) : Type 0 where
   pub right : valuesSound t vs ≡ true
   pub few : q .len ≤ 64
 
+-- what answering bs leaves; where all replies could be written, the values and the port are those of bs, fed byte by byte
+pub record Answers (t : List ℕ) (vs : List ℤ) (p : Port) (bs : List ℕ) (a : Answered) (vs′ : List ℤ) : Type 0 where
+  pub kept : Kept t vs′ (a .port)
+  pub values : a .written ≡ true → vs′ ≡ flow t vs p bs .values
+  pub seen : a .written ≡ true → view (a .port) ≡ flow t vs p bs .port
+
+-- what answering one read leaves: some bytes came, how many and which is outside the proof, and they were answered
+pub record AnswersRead (t : List ℕ) (vs : List ℤ) (p : Port) (input : List ℕ) (a : Answered) (vs′ : List ℤ) : Type 0 where
+  pub count : ℕ
+  pub within : count ≤ length input
+  pub answers : Answers t vs p (take count input) a vs′
+
 -- ---- the bytes of one read
 
 -- `at` bytes of bs were answered
-pub record Answering (t : List ℕ) (vs : List ℤ) (bs out : List ℕ) (vs′ : List ℤ) (q : Port) (at : ℕ) (out′ : List ℕ) : Type 0 where
+pub record Answering (t : List ℕ) (vs : List ℤ) (p : Port) (bs out : List ℕ) (vs′ : List ℤ) (q : Port) (at : ℕ) (out′ : List ℕ) : Type 0 where
   pub sounds : sound t ≡ true
   pub right : valuesSound t vs′ ≡ true
   pub size : length vs′ ≡ length vs
@@ -34,13 +52,28 @@ pub record Answering (t : List ℕ) (vs : List ℤ) (bs out : List ℕ) (vs′ :
   pub fits : length bs < 18446744073709551616
   pub room : 64 ≤ length out
   pub long : length out′ ≡ length out
+  pub values : vs′ ≡ flow t vs p (take at bs) .values
+  pub seen : view q ≡ flow t vs p (take at bs) .port
 
-module _ (t : List ℕ) (vs : List ℤ) (bs out : List ℕ) where
-  pub answering-start : (p : Port) → sound t ≡ true → valuesSound t vs ≡ true → p .len ≤ 64 → length bs < 18446744073709551616 → 64 ≤ length out
-      → Answering t vs bs out vs p 0 out
-  answering-start p s r k f l = record { sounds = s; right = r; size = refl; few = k; within = omega arith; fits = f; room = l; long = refl }
+module _ (t : List ℕ) (vs : List ℤ) (p : Port) (bs out : List ℕ) where
+  pub answering-start : sound t ≡ true → valuesSound t vs ≡ true → p .len ≤ 64 → length bs < 18446744073709551616 → 64 ≤ length out
+      → Answering t vs p bs out vs p 0 out
+  answering-start s r k f l =
+      let e = flow-nothing t vs p in
+      record {
+        sounds = s;
+        right = r;
+        size = refl;
+        few = k;
+        within = omega arith;
+        fits = f;
+        room = l;
+        long = refl;
+        values = rw e (unfold ended in refl);
+        seen = rw e (unfold ended in refl);
+      }
 
-  module _ (vs′ : List ℤ) (q : Port) (at : ℕ) (out′ : List ℕ) (h : Answering t vs bs out vs′ q at out′) (s : Served) (vs″ : List ℤ) (out″ : List ℕ)
+  module _ (vs′ : List ℤ) (q : Port) (at : ℕ) (out′ : List ℕ) (h : Answering t vs p bs out vs′ q at out′) (s : Served) (vs″ : List ℤ) (out″ : List ℕ)
       (a : Serves t vs′ q (take (length bs - at) (drop at bs)) out′ s vs″ out″) where
     pub written-within : s .length ≤ length out″
     written-within = omega (arith, a .room, serves-long t vs′ q (take (length bs - at) (drop at bs)) out′ s vs″ out″ a)
@@ -51,9 +84,13 @@ module _ (t : List ℕ) (vs : List ℤ) (bs out : List ℕ) where
     most : s .consumed ≤ length bs - at
     most = omega (arith, a .within, length-take (length bs - at) (drop at bs))
 
-    pub answering-next : Answering t vs bs out vs″ (s .port) (at + s .consumed) out″
-    unfolding lineLimit
+    rest : Serves t vs′ q (drop at bs) out′ s vs″ out″
+    rest = rw (part-to-end bs at) at a
+
+    pub answering-next : Answering t vs p bs out vs″ (s .port) (at + s .consumed) out″
+    unfolding lineLimit followed
     answering-next =
+        let more = flow-more t vs p bs at vs′ q (h .values) (h .seen) (s .consumed) in
         record {
           sounds = h .sounds;
           right = serves-right t vs′ q (take (length bs - at) (drop at bs)) out′ s vs″ out″ (h .sounds) (h .right) (h .few) a;
@@ -63,10 +100,18 @@ module _ (t : List ℕ) (vs : List ℤ) (bs out : List ℕ) where
           fits = h .fits;
           room = h .room;
           long = serves-long t vs′ q (take (length bs - at) (drop at bs)) out′ s vs″ out″ a ∙ h .long;
+          values = rw more (rest .values);
+          seen = rw more (rest .seen);
         }
 
-    pub answered-part : Kept t vs″ (s .port)
-    answered-part = record { right = answering-next .right; few = answering-next .few }
+    -- the replies could not be written
+    pub answered-part : Answers t vs p bs (record { port = s .port; written = false }) vs″
+    answered-part =
+        record {
+          kept = record { right = answering-next .right; few = answering-next .few };
+          values = λ w. absurd (true≢false (sym w));
+          seen = λ w. absurd (true≢false (sym w));
+        }
 
     pub answering-fits : Fits w64 (at + s .consumed)
     answering-fits = record { fits = omega (arith, most, h .within, h .fits) }
@@ -77,10 +122,36 @@ module _ (t : List ℕ) (vs : List ℤ) (bs out : List ℕ) where
         (simp (length-take, length-drop) (omega arith)) a in
         omega (arith, most)
 
-  pub answered-all : (vs′ : List ℤ) (q : Port) (at : ℕ) (out′ : List ℕ) → Answering t vs bs out vs′ q at out′ → Kept t vs′ q
-  answered-all vs′ q at out′ h = record { right = h .right; few = h .few }
+  pub answered-all : (vs′ : List ℤ) (q : Port) (at : ℕ) (out′ : List ℕ) → Answering t vs p bs out vs′ q at out′ → length bs ≤ at
+      → Answers t vs p bs (record { port = q; written = true }) vs′
+  answered-all vs′ q at out′ h l =
+      let whole : take at bs ≡ bs = take-all at bs l in
+      record { kept = record { right = h .right; few = h .few }; values = λ w. rw whole at (h .values); seen = λ w. rw whole at (h .seen) }
 
 pub ruleset answering = (answering-start, written-within, written-part, answering-next, answered-part, answered-all, answering-fits, answering-less)
+
+-- ---- one read
+
+module _ (t : List ℕ) (vs : List ℤ) (p : Port) (input : List ℕ) where
+  -- nothing came
+  pub read-nothing : valuesSound t vs ≡ true → p .len ≤ 64 → AnswersRead t vs p input (record { port = p; written = false }) vs
+  read-nothing r k =
+      record {
+        count = 0;
+        within = omega arith;
+        answers =
+            record {
+              kept = record { right = r; few = k };
+              values = λ w. absurd (true≢false (sym w));
+              seen = λ w. absurd (true≢false (sym w));
+            };
+      }
+
+  pub read-some : (count : ℕ) (a : Answered) (vs′ : List ℤ) → count ≤ length input → Answers t vs p (take count input) a vs′
+      → AnswersRead t vs p input a vs′
+  read-some count a vs′ l h = record { count = count; within = l; answers = h }
+
+pub ruleset one-read = (read-nothing, read-some)
 
 -- ---- read after read
 
@@ -107,9 +178,13 @@ module _ (t : List ℕ) (vs : List ℤ) (input out : List ℕ) (vs′ : List ℤ
   pub reads-room : 64 ≤ length out′
   reads-room = omega (arith, h .out-long, h .room)
 
-  pub reads-next : (vs″ : List ℤ) (input″ out″ : List ℕ) (r : Port) → Kept t vs″ r → length vs″ ≡ length vs′ → length input″ ≡ length input′
-      → length out″ ≡ length out′ → Reads t vs input out vs″ input″ out″ r
+  pub reads-next : (vs″ : List ℤ) (input″ out″ : List ℕ) (r : Answered) → AnswersRead t vs′ q input″ r vs″ → length vs″ ≡ length vs′
+      → length input″ ≡ length input′ → length out″ ≡ length out′ → Reads t vs input out vs″ input″ out″ (r .port)
   reads-next vs″ input″ out″ r k a b c =
-      record { kept = k; size = a ∙ h .size; input-long = b ∙ h .input-long; out-long = c ∙ h .out-long; room = h .room }
+      record { kept = k .answers .kept; size = a ∙ h .size; input-long = b ∙ h .input-long; out-long = c ∙ h .out-long; room = h .room }
 
-pub ruleset reads = (reads-start, reads-right, reads-few, reads-room, reads-next)
+-- the last read
+pub reads-last : (t : List ℕ) (vs : List ℤ) (q : Port) (input : List ℕ) (r : Answered) (vs′ : List ℤ) → AnswersRead t vs q input r vs′ → valuesSound t vs′ ≡ true
+reads-last t vs q input r vs′ k = k .answers .kept .right
+
+pub ruleset reads = (reads-start, reads-right, reads-few, reads-room, reads-next, reads-last)

@@ -12,7 +12,7 @@ ghost use lib.ListN.{length};
 ghost use Rattle.catalogue.specs.Catalogue.{numbers};
 ghost use Rattle.room.specs.Table.{sound};
 ghost use Rattle.values.specs.Values.{valuesSound};
-ghost use Rattle.port.specs.Input.{Kept};
+ghost use Rattle.port.specs.Input.{Answers, AnswersRead};
 
 // The port after some bytes, and whether their replies could be written.
 struct Answered {
@@ -31,7 +31,7 @@ fn answer_bytes(
 ) -> Answered
     requires { ⌜ (sound (now table) ≡ true) × (now rows ≡ numbers) × (valuesSound (now table) (now values) ≡ true) ⌝ }
     requires { ⌜ (port .len ≤ 64) × (64 ≤ length (now out)) ⌝ }
-    ensures { λ r. ⌜ Kept (now (table .entry)) (now (values .exit)) (r .port) ⌝ }
+    ensures { λ r. ⌜ Answers (now (table .entry)) (now (values .entry)) port (now (given .entry)) r (now (values .exit)) ⌝ }
 {
     let mut port = port;
     let mut at = 0;
@@ -64,7 +64,7 @@ fn answer_read(
 ) -> Answered
     requires { ⌜ (sound (now table) ≡ true) × (now rows ≡ numbers) × (valuesSound (now table) (now values) ≡ true) ⌝ }
     requires { ⌜ (port .len ≤ 64) × (64 ≤ length (now out)) ⌝ }
-    ensures { λ r. ⌜ Kept (now (table .entry)) (now (values .exit)) (r .port) ⌝ }
+    ensures { λ r. ⌜ AnswersRead (now (table .entry)) (now (values .entry)) port (now (input .exit)) r (now (values .exit)) ⌝ }
 {
     let got = libc::read(STDIN_FILENO, input);
     let count = io::count(got, input);
@@ -87,6 +87,7 @@ fn answer_all(
 )
     requires { ⌜ (sound (now table) ≡ true) × (now rows ≡ numbers) × (valuesSound (now table) (now values) ≡ true) ⌝ }
     requires { ⌜ 64 ≤ length (now out) ⌝ }
+    ensures { λ r. ⌜ valuesSound (now (table .entry)) (now (values .exit)) ≡ true ⌝ }
 {
     let mut port = Port::fresh();
     let mut turns = u64::MAX;

@@ -1,6 +1,7 @@
 -- Serving a stream: what its calls consume is fed byte by byte, and the replies are put one after the other.
 pub mod Calls
 pub mod Consuming
+pub mod Flow
 pub mod Laws
 pub mod Turns
 use mathlib.Core.Path.{_≡_}

@@ -9,7 +9,7 @@ use borrow.Rule.Slice.PartAt.{part-to-end}
 use borrow.Rule.Slice.PartMut.{putMid, post-is}
 use lib.IntN.{ℤ}
 use lib.ListN.{length, take, drop, length-drop, drop-of-length-le}
-use lib.Seq.{sets, sets-eq, drop-drop, take-add}
+use lib.Seq.{sets, sets-eq, drop-drop}
 use mir.Syntax.{w64}
 use mir.Val.{Fits}
 use Rattle.written.specs.Written.{Wrote}
@@ -22,12 +22,13 @@ use Rattle.serial_port.specs.Port.{view}
 use Rattle.serial_port.specs.Port.Laws.{claim-view}
 use Rattle.serial_port.specs.Call.{step, replyLimit, Answers}
 use Rattle.serial_port.specs.Play.{ended, feed}
-use Rattle.serial_port.specs.Play.Feed.{followed, feed-nothing, feed-append}
+use Rattle.serial_port.specs.Play.Feed.{followed}
 use Rattle.serial_port.specs.Play.Kept.{feed-keeps}
 use Rattle.serial_port.specs.Play.Laws.{Right, keeps-right}
 use Rattle.stream.specs.Stream.{joined, flow, consumes, Serves}
 use Rattle.stream.specs.Stream.Calls.{Made, Once, consumed-most, consumed-some, feed-once, joined-append, made, step-fits}
 use Rattle.stream.specs.Stream.Consuming.{none-left, no-room, one-more}
+use Rattle.stream.specs.Stream.Flow.{flow-nothing, flow-more}
 use Rattle.serial_port.specs.declared.port.Port.{Port}
 use Rattle.serial_port.specs.declared.port.Called.{Called}
 use Rattle.values.specs.Values.Laws.{values-many}
@@ -63,9 +64,8 @@ pub record Serving (t : List ℕ) (vs : List ℤ) (p : Port) (bs out : List ℕ)
 module _ (t : List ℕ) (vs : List ℤ) (p : Port) (bs out : List ℕ) where
   pub serving-start : sound t ≡ true → valuesSound t vs ≡ true → p .len ≤ 64 → length bs < 18446744073709551616 → length out < 18446744073709551616
       → Serving t vs p bs out vs p 0 0 out
-  unfolding flow
   serving-start s r k gf of =
-      let e = feed-nothing (answer t) (view p) vs in
+      let e = flow-nothing t vs p in
       record {
         sounds = s;
         given-fits = gf;
@@ -105,16 +105,9 @@ module _ (t : List ℕ) (vs : List ℤ) (p : Port) (bs out : List ℕ) where
           }
 
       -- the call, fed byte by byte to what the calls before left
-      fed : Once (feed (answer t) (flow t vs p (take at bs) .port) (flow t vs p (take at bs) .values) (take (c .consumed) (drop at bs))) (step (answer t) vs′ (view q) (drop at bs))
-      unfolding lineLimit
-      fed =
-          rw (← (h .seen), ← (h .values), done .consumed)
-          (feed-once (answer t) (view q) vs′ (drop at bs) (claim-view q (h .few)))
-
-      followed-by : flow t vs p (take (at + c .consumed) bs)
-          ≡ followed (flow t vs p (take at bs)) (feed (answer t) (flow t vs p (take at bs) .port) (flow t vs p (take at bs) .values) (take (c .consumed) (drop at bs)))
-      unfolding flow
-      followed-by = rw (take-add at (c .consumed) bs) (feed-append (answer t) (view p) vs (take at bs) (take (c .consumed) (drop at bs)))
+      fed : Once (flow t vs′ q (take (c .consumed) (drop at bs))) (step (answer t) vs′ (view q) (drop at bs))
+      unfolding flow lineLimit
+      fed = rw (done .consumed) (feed-once (answer t) (view q) vs′ (drop at bs) (claim-view q (h .few)))
 
       right-after : valuesSound t vs″ ≡ true
       unfolding lineLimit
@@ -148,7 +141,7 @@ module _ (t : List ℕ) (vs : List ℤ) (p : Port) (bs out : List ℕ) where
       pub serving-next : at < length bs → Serving t vs p bs out vs″ (c .port) (at + c .consumed) (n + c .length) (putMid n (length out′ - n) out′ part)
       unfolding followed
       serving-next l =
-          let f = followed-by in
+          let f = flow-more t vs p bs at vs′ q (h .values) (h .seen) (c .consumed) in
           let w = wrote-join (h .replies) wrote in
           let fits = step-fits t vs′ (view q) (drop at bs) (h .sounds) (h .right) in
           let r-past = done .reply .past in

@@ -1,4 +1,4 @@
--- `answer_bytes`: the values stay right, and the port claims at most 64 bytes.
+-- `answer_bytes`: the bytes before `at` were fed to the port and the values.
 use Prim.Native.Nat.{_-_}
 use borrow.Author.Needs.{needs}
 use lib.ListN.{length}
@@ -7,7 +7,7 @@ use Rattle.port.proofs.input.answer_bytes.Statement.{statement}
 use Rattle.port.proofs.input.answer_bytes.Tie as tie
 
 abbrev Inv-loop : tie.InvT-loop
-Inv-loop table rows values₀ given out₀ port₀ at₀ values out port at = Answering table values₀ given out₀ values port at out
+Inv-loop table rows values₀ given out₀ port₀ at₀ values out port at = Answering table values₀ port₀ given out₀ values port at out
 
 abbrev μ-loop : tie.MeasureT-loop
 μ-loop table rows values₀ given out₀ port₀ at₀ values out port at = length given - at
