@@ -14,10 +14,9 @@ use Rattle.level.specs.Level.{signed, levelTenth, levelPoint, levelMore, levelW
 use Rattle.text.specs.Number.{numberForm, readNumber}
 use Rattle.text.specs.Switch.{switchLetter, readSwitch, switchText}
 use Rattle.catalogue.specs.Catalogue.{minus, level, switch, number, catalogue, rowsIn, rowsOf}
-use Rattle.row.specs.Row.{permitted}
+use Rattle.row.specs.Row.{permitted, sameIndices}
 use Rattle.room.specs.Table.{bodyLength, recordLimit, modulesFrom, modules}
 use Rattle.label.specs.Label.{label, same, bearersIn, exactlyOne, bearer}
-use Rattle.row.specs.Row.{sameIndices}
 use Rattle.parameter.specs.Parameters.{numbered, parametersOf, place, withIndices, named}
 use Rattle.shape.specs.Shape.{lineLimit, isSet, isGet, opening, firstFrom, closing, equals, getShape, setShape, quoted, shape, part}
 use Rattle.line.specs.IndexPart.{oneGroup, twoGroups, groups, readIndices}

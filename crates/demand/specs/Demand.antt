@@ -25,36 +25,36 @@ pub record Admitted (w : Wish) : Type 0 where
   pub selection : selectionRight (w .table) (w .selection) ≡ true
   pub wanted : wantedRight (w .table) (w .selection) (w .wanted) ≡ true
 
--- once it is played, each parameter of a chosen module has its wanted value and each other its present one
-pub record Fulfils (w : Wish) (replyRoom : ℕ) (bs : List ℕ) : Type 0 where
-  pub served : play (w .table) replyRoom (w .present) bs .refused ≡ false
-  pub reached : play (w .table) replyRoom (w .present) bs .values ≡ target w
+-- once it is played, with a reply buffer of `replyRooms n` bytes for call n, each parameter of a chosen module has its wanted value and each other its present one
+pub record Fulfils (w : Wish) (replyRooms : ℕ → ℕ) (bs : List ℕ) : Type 0 where
+  pub served : play (w .table) replyRooms (w .present) bs .refused ≡ false
+  pub reached : play (w .table) replyRooms (w .present) bs .values ≡ target w
 
 -- a shortest one of all byte sequences that fulfil the wish
-pub record Shortest (w : Wish) (replyRoom : ℕ) (list : List ℕ) : Type 0 where
-  pub fulfils : Fulfils w replyRoom list
-  pub least : (bs : List ℕ) → Fulfils w replyRoom bs → length list ≤ length bs
+pub record Shortest (w : Wish) (replyRooms : ℕ → ℕ) (list : List ℕ) : Type 0 where
+  pub fulfils : Fulfils w replyRooms list
+  pub least : (bs : List ℕ) → Fulfils w replyRooms bs → length list ≤ length bs
 
 -- the bytes told are a shortest list, at the start of the buffer; playing it gives exactly one ACK for each line told and no other reply,
 -- and the port ends fresh; the lines told are as many as the parameters of chosen modules that differ
-pub record Listed (w : Wish) (replyRoom room : ℕ) (a : Told) : Type 0 where
-  pub shortest : Shortest w replyRoom (take (a .bytes) (a .buffer))
+pub record Listed (w : Wish) (replyRooms : ℕ → ℕ) (room : ℕ) (a : Told) : Type 0 where
+  pub shortest : Shortest w replyRooms (take (a .bytes) (a .buffer))
   pub bytes : a .bytes ≡ length (take (a .bytes) (a .buffer))
   pub fits : a .bytes ≤ room
-  pub acknowledged : play (w .table) replyRoom (w .present) (take (a .bytes) (a .buffer)) .replies ≡ replicate (a .lines) ack
-  pub ends : play (w .table) replyRoom (w .present) (take (a .bytes) (a .buffer)) .port ≡ fresh
+  pub acknowledged : play (w .table) replyRooms (w .present) (take (a .bytes) (a .buffer)) .replies ≡ replicate (a .lines) ack
+  pub ends : play (w .table) replyRooms (w .present) (take (a .bytes) (a .buffer)) .port ≡ fresh
   pub lines : a .lines ≡ differing (w .selection) (parameters (w .table)) (w .present) (w .wanted)
 
 -- the answer of a restore call with a list buffer of `room` bytes: accepted, 7 where no byte sequence fulfils the wish,
 -- or 8 where the shortest that does is longer than the buffer
-pub data Demanded (w : Wish) (replyRoom room : ℕ) (a : Told) : Type 0 where
-  accepted : a .number ≡ 0 → Listed w replyRoom room a → Demanded w replyRoom room a
-  unreachable : a .number ≡ 7 → ((bs : List ℕ) → Fulfils w replyRoom bs → ⊥) → Demanded w replyRoom room a
-  no-room : a .number ≡ 8 → (list : List ℕ) → Shortest w replyRoom list → room < length list → Demanded w replyRoom room a
+pub data Demanded (w : Wish) (replyRooms : ℕ → ℕ) (room : ℕ) (a : Told) : Type 0 where
+  accepted : a .number ≡ 0 → Listed w replyRooms room a → Demanded w replyRooms room a
+  unreachable : a .number ≡ 7 → ((bs : List ℕ) → Fulfils w replyRooms bs → ⊥) → Demanded w replyRooms room a
+  no-room : a .number ≡ 8 → (list : List ℕ) → Shortest w replyRooms list → room < length list → Demanded w replyRooms room a
 
--- demand 3 speaks of every restore call to which no refusal that comes before 7 applies, played with reply buffers of at least 64 bytes
+-- demand 3 speaks of every restore call to which no refusal that comes before 7 applies, played with reply buffers of at least 64 bytes each
 abbrev pub DemandThree : Wish → (room : ℕ) → Told → Type 0
-DemandThree w room a = Admitted w → (replyRoom : ℕ) → replyLimit ≤ replyRoom → Demanded w replyRoom room a
+DemandThree w room a = Admitted w → (replyRooms : ℕ → ℕ) → ((call : ℕ) → replyLimit ≤ replyRooms call) → Demanded w replyRooms room a
 
 -- what the answer r tells, with the list buffer as it is afterwards
 unfoldable pub tells : Restored → (buffer : List ℕ) → Told

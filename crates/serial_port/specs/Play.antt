@@ -38,23 +38,23 @@ unfoldable pub first : (number : ℕ) → View → List ℤ → (replies : Bool)
 first zero v vs replies s rest = cond replies (replyFirst (s .reply) rest) rest
 first (suc n) v vs replies s rest = stopped v vs
 
--- at most `left` calls, from port v and values vs on; a call is refused with a number other than 0
-unfoldable pub playFrom : Answering → (refusal : List ℤ → View → ℕ) → (left : ℕ) → View → List ℤ → List ℕ → Played
-playFrom answer refusal zero v vs [] = ended v vs
-playFrom answer refusal zero v vs (b ∷ bs) = stopped v vs
-playFrom answer refusal (suc left) v vs [] = ended v vs
-playFrom answer refusal (suc left) v vs (b ∷ bs) =
-    first (refusal vs v) v vs (has 0x0D (b ∷ bs)) (step answer vs v (b ∷ bs))
-    (playFrom answer refusal left (step answer vs v (b ∷ bs) .port) (step answer vs v (b ∷ bs) .values)
+-- call number `call` and those after it, at most `left` of them, from port v and values vs on; a call is refused with a number other than 0
+unfoldable pub playFrom : Answering → (refusal : ℕ → List ℤ → View → ℕ) → (call left : ℕ) → View → List ℤ → List ℕ → Played
+playFrom answer refusal call zero v vs [] = ended v vs
+playFrom answer refusal call zero v vs (b ∷ bs) = stopped v vs
+playFrom answer refusal call (suc left) v vs [] = ended v vs
+playFrom answer refusal call (suc left) v vs (b ∷ bs) =
+    first (refusal call vs v) v vs (has 0x0D (b ∷ bs)) (step answer vs v (b ∷ bs))
+    (playFrom answer refusal (suc call) left (step answer vs v (b ∷ bs) .port) (step answer vs v (b ∷ bs) .values)
     (drop (step answer vs v (b ∷ bs) .consumed) (b ∷ bs)))
 
--- when a call with a reply buffer of `replyRoom` bytes is refused
-unfoldable pub refusal : (table : List ℕ) → (replyRoom : ℕ) → List ℤ → View → ℕ
-refusal t replyRoom vs v = callNumber t vs replyRoom (claim v)
+-- when a call is refused; the reply buffer of each call has a length of its own
+unfoldable pub refusal : (table : List ℕ) → (replyRooms : ℕ → ℕ) → (call : ℕ) → List ℤ → View → ℕ
+refusal t replyRooms call vs v = callNumber t vs (replyRooms call) (claim v)
 
 -- playing starts from a fresh port; each call consumes a byte or more, so that there are at most as many calls as bytes
-unfoldable pub play : (table : List ℕ) → (replyRoom : ℕ) → List ℤ → List ℕ → Played
-play t replyRoom vs bs = playFrom (answer t) (refusal t replyRoom) (length bs) fresh vs bs
+unfoldable pub play : (table : List ℕ) → (replyRooms : ℕ → ℕ) → List ℤ → List ℕ → Played
+play t replyRooms vs bs = playFrom (answer t) (refusal t replyRooms) 0 (length bs) fresh vs bs
 
 -- the same, byte by byte and without refusals: an 0D finishes the line, any other byte makes it longer
 unfoldable pub feed : Answering → View → List ℤ → List ℕ → Played

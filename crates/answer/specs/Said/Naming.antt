@@ -11,7 +11,7 @@ use Rattle.text.specs.Cut.Lacking.{lacks-cons, lacks-append}
 use Rattle.text.specs.Digits.{isDigit}
 use Rattle.level.specs.ValueBytes.{valueByte}
 use Rattle.text.specs.Every.{both-left}
-use Rattle.catalogue.specs.Catalogue.Sized.{sizedIndices, sizedBounds, sizedRow}
+use Rattle.catalogue.specs.Catalogue.Sized.{Sized, permitted-sized, sizedBounds, sizedIndices, sizedRow}
 use Rattle.label.specs.Label.{label, bearer}
 use Rattle.label.specs.Label.Laws.{bearer-found}
 use Rattle.field.specs.Field.Bytes.{label-right, label-no-quote, label-no-return}
@@ -19,7 +19,6 @@ use Rattle.parameter.specs.Parameters.{parameters, parametersOf, parameterAt, p
 use Rattle.parameter.specs.Parameters.Places.{at-place}
 use Rattle.parameter.specs.Parameters.Named.{named-back, row-sized}
 use Rattle.row.specs.Row.{permitted}
-use Rattle.catalogue.specs.Catalogue.Sized.{Sized, permitted-sized}
 use Rattle.room.specs.Table.{sound}
 use Rattle.field.specs.Field.{labelRight}
 use Rattle.label.specs.declared.Bearer.the-variants.{Only}

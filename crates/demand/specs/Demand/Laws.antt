@@ -39,19 +39,19 @@ use Rattle.values.specs.Values.Laws.{values-many, values-each}
 unfoldable pub list : Wish → List ℕ
 list w = listing (w .table) (changes w)
 
-module _ (w : Wish) (lines : Lines (w .table)) (admitted : Admitted w) (replyRoom : ℕ) (enough : replyLimit ≤ replyRoom) where
-  played : (bs : List ℕ) → play (w .table) replyRoom (w .present) bs ≡ feed (answer (w .table)) fresh (w .present) bs
-  played bs = plays (w .table) (admitted .table) replyRoom enough (w .present) bs (admitted .present)
+module _ (w : Wish) (lines : Lines (w .table)) (admitted : Admitted w) (replyRooms : ℕ → ℕ) (enough : (call : ℕ) → replyLimit ≤ replyRooms call) where
+  played : (bs : List ℕ) → play (w .table) replyRooms (w .present) bs ≡ feed (answer (w .table)) fresh (w .present) bs
+  played bs = plays (w .table) (admitted .table) replyRooms enough (w .present) bs (admitted .present)
 
   target-is-right : Right (w .table) (target w)
   target-is-right = target-right w (admitted .present) (admitted .wanted)
 
   -- ---- no sequence that fulfils the wish is shorter than the list
 
-  ends-at : (bs : List ℕ) → Fulfils w replyRoom bs → feed (answer (w .table)) fresh (w .present) bs .values ≡ target w
+  ends-at : (bs : List ℕ) → Fulfils w replyRooms bs → feed (answer (w .table)) fresh (w .present) bs .values ≡ target w
   ends-at bs f = ap (λ p. p .values) (sym (played bs)) ∙ f .reached
 
-  least : (bs : List ℕ) → Fulfils w replyRoom bs → length (list w) ≤ length bs
+  least : (bs : List ℕ) → Fulfils w replyRooms bs → length (list w) ≤ length bs
   unfolding list changes
   least bs f =
       let t = w .table in
@@ -62,7 +62,7 @@ module _ (w : Wish) (lines : Lines (w .table)) (admitted : Admitted w) (replyRoo
 
   -- ---- where no change is beyond reach, the list fulfils the wish
 
-  listed : allReachable (w .table) (changes w) ≡ true → play (w .table) replyRoom (w .present) (list w) ≡ done (length (changes w)) (target w)
+  listed : allReachable (w .table) (changes w) ≡ true → play (w .table) replyRooms (w .present) (list w) ≡ done (length (changes w)) (target w)
   unfolding list changes
   listed r =
       let t = w .table in
@@ -70,7 +70,7 @@ module _ (w : Wish) (lines : Lines (w .table)) (admitted : Admitted w) (replyRoo
       ∙ play-listing t lines (w .present) (target w) (values-many t (w .present) (admitted .present)) (values-many t (target w) target-is-right)
       (all-sayable t lines 0 (parameters t) (w .present) (target w) (from-start t) (values-each t (target w) target-is-right) r)
 
-  shortest : allReachable (w .table) (changes w) ≡ true → Shortest w replyRoom (list w)
+  shortest : allReachable (w .table) (changes w) ≡ true → Shortest w replyRooms (list w)
   shortest r =
       record {
         fulfils =
@@ -83,7 +83,7 @@ module _ (w : Wish) (lines : Lines (w .table)) (admitted : Admitted w) (replyRoo
 
   -- ---- where one is, no byte sequence does: its value stays as it is
 
-  none : allReachable (w .table) (changes w) ≡ false → (bs : List ℕ) → Fulfils w replyRoom bs → ⊥
+  none : allReachable (w .table) (changes w) ≡ false → (bs : List ℕ) → Fulfils w replyRooms bs → ⊥
   unfolding changes
   none r bs f =
       let t = w .table in
@@ -96,7 +96,7 @@ module _ (w : Wish) (lines : Lines (w .table)) (admitted : Admitted w) (replyRoo
   -- ---- the answer
 
   lists : (buffer : List ℕ) → length (list w) ≤ length buffer → allReachable (w .table) (changes w) ≡ true
-      → Listed w replyRoom (length buffer) (tell (w .table) 0 buffer (changes w))
+      → Listed w replyRooms (length buffer) (tell (w .table) 0 buffer (changes w))
   unfolding tell list changes
   lists buffer h r =
       record {
@@ -108,21 +108,21 @@ module _ (w : Wish) (lines : Lines (w .table)) (admitted : Admitted w) (replyRoo
         lines = unfold target in lines-differing (w .selection) (parameters (w .table)) (w .present) (w .wanted);
       }
 
-  pub demanded : (buffer : List ℕ) → Demanded w replyRoom (length buffer) (restore w buffer)
+  pub demanded : (buffer : List ℕ) → Demanded w replyRooms (length buffer) (restore w buffer)
   unfolding restore listNumber list
   demanded buffer =
       rw (number-list w (length buffer) (admitted .table) (admitted .present) (admitted .selection) (admitted .wanted))
       (go (allReachable (w .table) (changes w)) (leb (length (list w)) (length buffer)) refl refl)
     where
       go : (r n : Bool) → allReachable (w .table) (changes w) ≡ r → leb (length (list w)) (length buffer) ≡ n
-          → Demanded w replyRoom (length buffer) (tell (w .table) (cond r (cond n 0 8) 7) buffer (changes w))
+          → Demanded w replyRooms (length buffer) (tell (w .table) (cond r (cond n 0 8) 7) buffer (changes w))
       go false n r e = unreachable (unfold tell in refl) (none r)
       go true false r e = no-room (unfold tell in refl) (list w) (shortest r) (leb-false (length (list w)) (length buffer) e)
       go true true r e = accepted (unfold tell in refl) (lists buffer (leb-true (length (list w)) (length buffer) e) r)
 
 -- the whole of it, over the promise that the line layer keeps
 pub demand-three : (w : Wish) (buffer : List ℕ) → DemandThree w (length buffer) (restore w buffer)
-demand-three w buffer admitted replyRoom enough = demanded w (promise (w .table) (admitted .table)) admitted replyRoom enough buffer
+demand-three w buffer admitted replyRooms enough = demanded w (promise (w .table) (admitted .table)) admitted replyRooms enough buffer
 
 -- so the restore call's promise is kept once it tells and writes what it should
 pub restores : (w : Wish) (buffer : List ℕ) (r : Restored) (buffer′ : List ℕ) → tells r buffer′ ≡ restore w buffer → Restores w buffer r buffer′

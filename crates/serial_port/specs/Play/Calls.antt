@@ -125,7 +125,7 @@ module _ (t : List ℕ) (is-sound : sound t ≡ true) where
       go false e rest = waits c cs p vs bs r k e made rest
 
   -- from a port that is seen as fresh, such calls do what `play` says
-  pub calls-play : (replyRoom : ℕ) → replyLimit ≤ replyRoom → (cs : List Made) (p : Port) (vs : List ℤ) (bs : List ℕ) → view p ≡ fresh
-      → p .len ≤ lineLimit → Right t vs → Plays t cs p vs bs → play t replyRoom vs bs ≡ outcome cs p vs bs
-  calls-play replyRoom enough cs p vs bs f k r h =
-      plays t is-sound replyRoom enough vs bs r ∙ ap (λ v. feed (answer t) v vs bs) (sym f) ∙ calls-feed cs p vs bs k r h
+  pub calls-play : (replyRooms : ℕ → ℕ) → ((call : ℕ) → replyLimit ≤ replyRooms call) → (cs : List Made) (p : Port) (vs : List ℤ) (bs : List ℕ) → view p ≡ fresh
+      → p .len ≤ lineLimit → Right t vs → Plays t cs p vs bs → play t replyRooms vs bs ≡ outcome cs p vs bs
+  calls-play replyRooms enough cs p vs bs f k r h =
+      plays t is-sound replyRooms enough vs bs r ∙ ap (λ v. feed (answer t) v vs bs) (sym f) ∙ calls-feed cs p vs bs k r h
