@@ -33,7 +33,7 @@ ends=$(tr -dc '\r' <input | wc -c)
 replies=$(tr -dc '\r' <whole | wc -c)
 if [ "$ends" = "$replies" ]; then echo "ok: one reply to each of $ends lines"; else echo "FAILED: $replies replies to $ends lines"; failed=1; fi
 
-# a line of 65 bytes gets one 99, and the next line is read afresh
+# a line of 65 bytes gets one 99, and the one after it its own answer
 python3 -c 'import sys; sys.stdout.buffer.write(b"x" * 65 + b"\rGA\"T\">1\r")' >long
 printf '\02599\rGA"T">1=0.0\r' >afresh
 "$program" <long >got

@@ -63,8 +63,8 @@ extern "C" {
  * Answers 0 (sound) or 1 (not sound). */
 uint8_t egrivundo_table(const uint8_t *table, size_t table_count);
 
-/* One call on a port: consumes the given bytes up to the first 0x0D, that
- * byte included, or all if there is none, and serves a line that it ends.
+/* One call on a port: takes the given bytes through the first 0x0D, or all
+ * where there is none, and serves a line that it ends.
  *   table   a sound table
  *   values  one for each parameter: levels in tenths of a dB, switches 0 or
  *           1, numbers as they are; a line that is acknowledged sets one

@@ -28,7 +28,7 @@ act t vs (Put p x) = record { reply = ack; values = set vs (place p) x }
 unfoldable pub answer : List ℕ → List ℤ → List ℕ → Answer
 answer t vs line = act t vs (meaning t vs line)
 
--- what answering a line leaves: the reply at the start of its buffer and later bytes as they were, its length as the answer, and the values
+-- what answering a line leaves: the reply first in its buffer with every byte behind it as it was, its length as the answer, and the values
 pub record Answers (t : List ℕ) (vs : List ℤ) (line buffer : List ℕ) (length : ℕ) (vs′ : List ℤ) (buffer′ : List ℕ) : Type 0 where
   pub reply : Wrote buffer 0 (answer t vs line .reply) length buffer′
   pub values : vs′ ≡ answer t vs line .values

@@ -1,4 +1,4 @@
--- The catalogue: the fifty parameters of the six module types, in rising order of index 1 and then index 2 within a type.
+-- The catalogue: the fifty parameters of the six module types. Within a type they rise by index 1, and where it is the same by index 2.
 pub mod Distinct
 pub mod Each
 pub mod Fits

@@ -18,14 +18,14 @@ use Rattle.wish.specs.Target.{Wish, selectionRight, wantedRight, target, differ
 use Rattle.demand.specs.Listing.{Told, restore}
 use Rattle.demand.specs.declared.Restored.{Restored}
 
--- no refusal that comes before 7 applies
+-- 1, 2, 5 and 6 do not apply
 pub record Admitted (w : Wish) : Type 0 where
   pub table : sound (w .table) ≡ true
   pub present : valuesSound (w .table) (w .present) ≡ true
   pub selection : selectionRight (w .table) (w .selection) ≡ true
   pub wanted : wantedRight (w .table) (w .selection) (w .wanted) ≡ true
 
--- once it is played, with a reply buffer of `replyRooms n` bytes for call n, each parameter of a chosen module has its wanted value and each other its present one
+-- played with a reply buffer of `replyRooms n` bytes for call n, it leaves chosen modules as wanted and every other parameter as it was
 pub record Fulfils (w : Wish) (replyRooms : ℕ → ℕ) (bs : List ℕ) : Type 0 where
   pub served : play (w .table) replyRooms (w .present) bs .refused ≡ false
   pub reached : play (w .table) replyRooms (w .present) bs .values ≡ target w
@@ -35,8 +35,8 @@ pub record Shortest (w : Wish) (replyRooms : ℕ → ℕ) (list : List ℕ) : Ty
   pub fulfils : Fulfils w replyRooms list
   pub least : (bs : List ℕ) → Fulfils w replyRooms bs → length list ≤ length bs
 
--- the bytes told are a shortest list, at the start of the buffer; playing it gives exactly one ACK for each line told and no other reply,
--- and the port ends fresh; the lines told are as many as the parameters of chosen modules that differ
+-- the bytes told are a shortest list, at the start of the buffer; played, it is answered by as many ACKs as lines are told and by nothing else,
+-- and leaves the port fresh; the lines are as many as the parameters of chosen modules that differ
 pub record Listed (w : Wish) (replyRooms : ℕ → ℕ) (room : ℕ) (a : Told) : Type 0 where
   pub shortest : Shortest w replyRooms (take (a .bytes) (a .buffer))
   pub bytes : a .bytes ≡ length (take (a .bytes) (a .buffer))
@@ -52,7 +52,7 @@ pub data Demanded (w : Wish) (replyRooms : ℕ → ℕ) (room : ℕ) (a : Told) 
   unreachable : a .number ≡ 7 → ((bs : List ℕ) → Fulfils w replyRooms bs → ⊥) → Demanded w replyRooms room a
   no-room : a .number ≡ 8 → (list : List ℕ) → Shortest w replyRooms list → room < length list → Demanded w replyRooms room a
 
--- demand 3 speaks of every restore call to which no refusal that comes before 7 applies, played with reply buffers of at least 64 bytes each
+-- demand 3, of a call that 1, 2, 5 and 6 do not refuse, played with reply buffers of 64 bytes or more
 abbrev pub DemandThree : Wish → (room : ℕ) → Told → Type 0
 DemandThree w room a = Admitted w → (replyRooms : ℕ → ℕ) → ((call : ℕ) → replyLimit ≤ replyRooms call) → Demanded w replyRooms room a
 

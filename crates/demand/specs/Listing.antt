@@ -42,7 +42,7 @@ changes w = changesOf (parameters (w .table)) (w .present) (target w)
 unfoldable pub lineOf : (table : List ℕ) → Change → List ℕ
 lineOf t c = say t (c .parameter) (c .present) (c .target) ++ 0x0D ∷ []
 
--- each line is put down from where the one before ended
+-- the lines, one behind the other
 unfoldable pub listing : (table : List ℕ) → List Change → List ℕ
 listing t [] = []
 listing t (c ∷ cs) = lineOf t c ++ listing t cs
@@ -89,7 +89,7 @@ pub record Told : Type 0 where
   pub lines : ℕ
   pub buffer : List ℕ
 
--- the list is written at the start of its buffer, and later bytes stay; a refusal counts zero and changes nothing
+-- the list stands first in its buffer, and what is behind it stays; a refusal counts zero and changes nothing
 unfoldable pub tell : (table : List ℕ) → (number : ℕ) → (buffer : List ℕ) → List Change → Told
 tell t zero buffer cs =
     record { number = 0; bytes = length (listing t cs); lines = length cs; buffer = sets buffer 0 (listing t cs) }

@@ -1,4 +1,4 @@
-// Labels.
+// Which module alone bears a text, and how long a label is.
 use catalogue::rows::row_count;
 use field::label_right;
 use room::table::Module;

@@ -38,7 +38,7 @@ unfoldable pub levelWhole : Bool → List ℕ → Level
 levelWhole minus [] = Wrong
 levelWhole minus (b ∷ s) = cond (isDigit b) (levelMore minus (b - 48) s) Wrong
 
--- a level text: an optional `-`, one or two digits, and optionally a point with exactly one digit
+-- a level text: perhaps a `-`, then one or two digits, then perhaps a point and one digit more
 unfoldable pub readLevel : List ℕ → Level
 readLevel [] = Wrong
 readLevel (b ∷ s) = cond (eqb b 45) (levelWhole true s) (levelWhole false (b ∷ s))

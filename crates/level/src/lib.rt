@@ -1,4 +1,4 @@
-// Level texts, read from the left: a function for each state of the grammar, over the rest of the text.
+// Level texts, read from the left: each state of the grammar is a function of what is left of the text.
 pub mod sign;
 
 use crate::sign::with_sign;
@@ -72,7 +72,7 @@ fn read_whole(minus: bool, s: &[u8]) -> Level
     Level::Wrong
 }
 
-// The level that `s` says: an optional `-`, one or two digits, and optionally a point with exactly one digit.
+// The level that `s` says: perhaps a `-`, then one or two digits, then perhaps a point and one digit more.
 pub fn read_level(s: &[u8]) -> Level
     ensures { λ r. ⌜ r ≡ readLevel (now (s .entry)) ⌝ }
 {

@@ -1,4 +1,4 @@
--- The index part: one or two groups, each `>` and one to three decimal digits.
+-- The index part: a `>` with one to three digits, once or twice.
 pub mod Reading
 use mathlib.Core.Bool.{cond}
 use mathlib.Core.List.{List, [], _∷_}

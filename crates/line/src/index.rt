@@ -46,7 +46,7 @@ fn read_groups(s: &[u8]) -> IndexPart
     read_one(s)
 }
 
-// The indices that an index part says: one or two groups, each `>` and one to three digits.
+// The indices that an index part says: a `>` with one to three digits, once or twice.
 pub fn read_indices(part: &[u8]) -> IndexPart
     ensures { λ r. ⌜ r ≡ readIndices (now (part .entry)) ⌝ }
 {

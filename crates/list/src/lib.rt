@@ -1,4 +1,4 @@
-// Writing the restore list: each line is put down from where the one before ended.
+// Writing the restore list: the lines one behind the other, each into what is left of the buffer.
 use catalogue::rows::row_count;
 use catalogue::rows::row_of;
 use label::label_length;
@@ -19,7 +19,7 @@ ghost use Rattle.demand.specs.Demand.{Admitted};
 ghost use Rattle.demand.specs.Listing.{changes, listing};
 ghost use Rattle.measure.specs.Measuring.{Standing, moduleChanges, rowChanges};
 
-// One set line with its 0D, put down at a place: the part of the buffer that is left is lent on.
+// One set line with its 0D, put down at a place: what is left of the buffer is lent on.
 fn write_line(
     table: &[u8],
     p: Parameter,

@@ -24,7 +24,7 @@ firstQuote line = indexOf 0x22 line
 unfoldable pub secondQuote : List ℕ → ℕ
 secondQuote line = firstFrom 0x22 (firstQuote line + 1) line
 
--- where exactly one module bears the text, the label as it stands in the table, else the text as it stands in the line
+-- of a text that one module alone bears its label in the table, of any other the text in the line
 unfoldable pub shown : (start end : ℕ) → Bearer → LogPart
 shown start end (Only m) = Table (m .place + 1) (m .place + 1 + (end - start))
 shown start end NotOne = Line start end

@@ -9,7 +9,7 @@ use Rattle.row.specs.declared.Indices.{Indices}
 use Rattle.row.specs.declared.Indices.the-variants.{OneGroup, TwoGroups}
 use Rattle.parameter.specs.declared.Parameter.{Parameter}
 
--- a row's indices, each after `>`, without leading zeros
+-- the indices of a row, a `>` before each, no leading zeros
 unfoldable pub indexText : Indices → List ℕ
 indexText (OneGroup a) = 0x3E ∷ digits a
 indexText (TwoGroups a b) = 0x3E ∷ (digits a ++ (0x3E ∷ digits b))

@@ -1,4 +1,4 @@
--- Parameters: the rows of the modules, module by module in table order, row by row.
+-- Parameters: the rows of each module in turn, in the order of the table.
 pub mod Each
 pub mod Laws
 pub mod Named

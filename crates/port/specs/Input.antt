@@ -1,5 +1,5 @@
--- Rules for the code that answers the input: what is read is fed to the port byte by byte, and the values stay right.
-use mathlib.Core.Path.{_≡_, refl, sym, ap, _∙_}
+-- What answering the input leaves, and rules for its code: what is read is fed to the port byte by byte, and the values stay right.
+use mathlib.Core.Path.{_≡_, refl, sym, _∙_}
 use mathlib.Core.Bool.{true, false, true≢false}
 use mathlib.Core.List.{List}
 use Prim.Native.Nat.{ℕ, _+_, _-_, _≤_, _<_}
@@ -34,7 +34,7 @@ pub record Answers (t : List ℕ) (vs : List ℤ) (p : Port) (bs : List ℕ) (a 
   pub values : a .written ≡ true → vs′ ≡ flow t vs p bs .values
   pub seen : a .written ≡ true → view (a .port) ≡ flow t vs p bs .port
 
--- what answering one read leaves: some bytes came, how many and which is outside the proof, and they were answered
+-- what answering one read leaves: bytes came or none, how many and which is outside the proof, and they were answered
 pub record AnswersRead (t : List ℕ) (vs : List ℤ) (p : Port) (input : List ℕ) (a : Answered) (vs′ : List ℤ) : Type 0 where
   pub count : ℕ
   pub within : count ≤ length input

@@ -10,7 +10,7 @@ use lib.Seq.{length-take-le, take-at}
 use Rattle.room.specs.Table.{sound}
 use Rattle.values.specs.Values.{Started, starts, valuesSound}
 use Rattle.values.specs.Values.Right.{starts-few, starts-right}
-use Rattle.serial_port.specs.Call.Serving.{test-held}
+use Rattle.text.specs.Every.{test-held}
 
 pub part-counts : (l : List ℕ) (n : ℕ) → n ≤ length l → n ≡ length (take n l)
 part-counts l n h = sym (length-take-le n l h)

@@ -14,7 +14,7 @@ ghost use Rattle.room.specs.Table.{sound};
 ghost use Rattle.values.specs.Values.{valuesSound};
 ghost use Rattle.port.specs.Input.{Answers, AnswersRead};
 
-// The port after some bytes, and whether their replies could be written.
+// The port after some bytes, and whether to go on: not where a reply could not be written, or nothing came.
 struct Answered {
     port: Port,
     written: bool,
@@ -77,7 +77,8 @@ fn answer_read(
     answer_bytes(table, rows, values, port, &input[..count], out)
 }
 
-// A proved loop has to end, and nothing says that the input does. So the loop counts its turns down, from a number that no run uses up.
+// Answers read after read, until the input ends or a reply cannot be written. A proved loop has to end, and nothing says that the input does:
+// so it counts its turns down, from a number that no run uses up.
 fn answer_all(
     table: &[u8],
     rows: &[[i32; 8]; 50],

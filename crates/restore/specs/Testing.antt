@@ -1,4 +1,4 @@
--- The tests that come before the list: their numbers, lowest first, and 0 where every test is passed.
+-- Rules for the tests before the list: a failed one gives the call its number, and a wish that passes all is admitted.
 use mathlib.Core.Path.{_≡_, refl, sym, _∙_}
 use mathlib.Core.Bool.{Bool, true, false, not}
 use mathlib.Core.List.{List}
@@ -6,6 +6,7 @@ use Prim.Native.Nat.{ℕ, zero, suc}
 use native.Mathlib.Omega.{arith}
 use borrow.Author.Tests.{not-false, not-true}
 use lib.IntN.{ℤ}
+use Rattle.text.specs.Every.{test-held}
 use Rattle.room.specs.Table.{sound}
 use Rattle.values.specs.Values.{valuesSound}
 use Rattle.wish.specs.Target.{Wish, selectionRight, wantedRight}
@@ -39,10 +40,6 @@ test-refuses w room h = go (testNumber w) h
 
 -- ---- rules: each test in its turn
 
--- a test that was passed
-pub passes : (b test : Bool) → b ≡ test → not b ≡ false → test ≡ true
-passes b test e h = sym e ∙ not-false b h
-
 module _ (t selection : List ℕ) (ws : List ℤ) (b : Bool) where
   pub fails-selection : b ≡ selectionRight t selection → not b ≡ true → 5 ≡ wishNumber t selection ws
   unfolding wishNumber
@@ -56,7 +53,7 @@ module _ (t selection : List ℕ) (ws : List ℤ) (b : Bool) where
   unfolding wishNumber
   passes-wish e h c = let w : wantedRight t selection ws ≡ true = sym e ∙ not-false b h in rw (c, w) refl
 
-pub ruleset wish-testing = (passes, fails-selection, fails-wanted, passes-wish)
+pub ruleset wish-testing = (test-held, fails-selection, fails-wanted, passes-wish)
 
 module _ (t : List ℕ) (vs : List ℤ) (selection : List ℕ) (ws : List ℤ) (b : Bool) where
   pub fails-table : b ≡ sound t → not b ≡ true → 1 ≡ testNumber (wishOf t vs selection ws)
@@ -71,4 +68,4 @@ module _ (t : List ℕ) (vs : List ℤ) (selection : List ℕ) (ws : List ℤ) (
   unfolding testNumber
   tests-wish n k e h s = let v : valuesSound t vs ≡ true = sym e ∙ not-false b h in k ∙ rw (s, v) refl
 
-pub ruleset testing = (passes, fails-table, fails-values, tests-wish)
+pub ruleset testing = (test-held, fails-table, fails-values, tests-wish)

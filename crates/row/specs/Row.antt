@@ -17,7 +17,7 @@ sameIndices (OneGroup a) (TwoGroups c d) = false
 sameIndices (TwoGroups a b) (OneGroup c) = false
 sameIndices (TwoGroups a b) (TwoGroups c d) = eqb a c && eqb b d
 
--- from low to high, and its distance from low a multiple of the step; switches and numbers have the step 1
+-- within the bounds, and a whole number of steps above low; switches and numbers have the step 1
 unfoldable pub permitted : Row → ℤ → Bool
 permitted r v = leZ (r .low) v && leZ v (r .high) && eqb (natAbs (v -ℤ r .low) % r .step) 0
 

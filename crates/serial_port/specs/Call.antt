@@ -45,7 +45,7 @@ replied consumed a = record { port = fresh; consumed = consumed; reply = a .repl
 unfoldable pub waiting : List ℤ → (consumed : ℕ) → View → Step
 waiting vs consumed v = record { port = v; consumed = consumed; reply = []; values = vs }
 
--- the given bytes up to the first 0D, that byte included, or all if there is none
+-- what a call takes of the given bytes: through the first 0D, or all where there is none
 unfoldable pub step : Answering → List ℤ → View → List ℕ → Step
 step answer vs v bs =
     cond (has 0x0D bs)
@@ -57,7 +57,7 @@ unfoldable pub replyLimit : ℕ
 replyLimit = 64
 
 -- the lowest number that applies, 0 where none does: 1 the table is not sound, 2 the values are wrong,
--- 3 the reply buffer is short, 4 the port claims over 64 held bytes, also if it has overrun
+-- 3 the reply buffer is short, 4 the port claims more than 64 bytes, overrun or not
 unfoldable pub callNumber : (table : List ℕ) → List ℤ → (replyRoom claimed : ℕ) → ℕ
 callNumber t vs replyRoom claimed =
     cond (sound t) (cond (valuesSound t vs) (cond (leb replyLimit replyRoom) (cond (leb claimed lineLimit) 0 4) 3) 2) 1
@@ -70,7 +70,7 @@ pub record Told : Type 0 where
   pub values : List ℤ
   pub buffer : List ℕ
 
--- the reply is written at the start of its buffer, and later bytes stay; a refusal counts zero and changes nothing
+-- the reply stands first in its buffer, and what is behind it stays; a refusal counts zero and changes nothing
 unfoldable pub tell : (number : ℕ) → List ℤ → (buffer : List ℕ) → Step → Told
 tell zero vs buffer s =
     record { number = 0; consumed = s .consumed; length = length (s .reply); values = s .values; buffer = sets buffer 0 (s .reply) }

@@ -1,4 +1,4 @@
--- What a port is to its user: the bytes of the unfinished line, at most 64, or that the line has overrun.
+-- What a port is to its user: the unfinished line, of up to 64 bytes, or that it has overrun.
 pub mod Collecting
 pub mod Laws
 use mathlib.Core.Path.{_≡_}
@@ -10,7 +10,7 @@ use lib.ListN.{length, take}
 use Rattle.shape.specs.Shape.{lineLimit}
 use Rattle.serial_port.specs.declared.port.Port.{Port}
 
--- an overrun port reads on as overrun with any held bytes, and what is stored past the held bytes does not count
+-- of an overrun port the held bytes do not count, and of no port what is stored past them
 pub data View : Type 0 where
   held : List ℕ → View
   over : View
@@ -18,7 +18,7 @@ pub data View : Type 0 where
 unfoldable pub view : Port → View
 view p = cond (p .overrun) over (held (take (p .len) (p .held)))
 
--- two ports count as the same when both have overrun and claim at most 64 bytes, or neither has and their held bytes are equal
+-- the paper's equal ports: both overrun, with claims of 64 or less; or neither, with the same held bytes
 pub data Same (p q : Port) : Type 0 where
   both-over : p .overrun ≡ true → q .overrun ≡ true → p .len ≤ lineLimit → q .len ≤ lineLimit → Same p q
   both-held : p .overrun ≡ false → q .overrun ≡ false → take (p .len) (p .held) ≡ take (q .len) (q .held) → Same p q

@@ -1,4 +1,4 @@
--- The shape of a line: the verb, at most one space, a quote, the label, a quote, the index part and, in a set line, `=` and the value text.
+-- The shape of a line: verb, perhaps a space, label between quotes, index part and, in a set line, `=` and the value text.
 pub mod Laws
 pub mod Quotes
 pub mod Reading
@@ -23,7 +23,7 @@ isSet line = same (take 2 line) (0x53 ∷ 0x41 ∷ [])
 unfoldable pub isGet : List ℕ → Bool
 isGet line = same (take 2 line) (0x47 ∷ 0x41 ∷ [])
 
--- where the opening quote should stand: right after the verb and its optional space
+-- where the opening quote should stand: behind the verb, or behind one space after it
 unfoldable pub opening : List ℕ → ℕ
 opening line = cond (eqb (getD line 2 0) 0x20) 3 2
 
@@ -46,7 +46,7 @@ getShape line = Get (opening line) (closing line)
 unfoldable pub setShape : List ℕ → Shape
 setShape line = cond (ltb (equals line) (length line)) (Set (opening line) (closing line) (equals line)) Malformed
 
--- a quote right after the verb and its optional space, and a second one after that
+-- a quote where it should stand, and another one behind it
 unfoldable pub quoted : List ℕ → Shape → Shape
 quoted line shape =
     cond (eqb (getD line (opening line) 0) 0x22) (cond (ltb (closing line) (length line)) shape Malformed) Malformed

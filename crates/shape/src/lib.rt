@@ -27,7 +27,7 @@ fn find_from(line: &[u8], from: usize, b: u8) -> usize
     from + find(&line[from..], b)
 }
 
-// Where the opening quote should stand: right after the verb and its optional space.
+// Where the opening quote should stand: behind the verb, or behind one space after it.
 fn opening(line: &[u8]) -> usize
     requires { ⌜ 2 < length (now line) ⌝ }
     ensures { λ r. ⌜ r ≡ opening (now (line .entry)) ⌝ }
@@ -38,7 +38,7 @@ fn opening(line: &[u8]) -> usize
     2
 }
 
-// The two quotes: one right after the verb and its optional space, and the next one.
+// The two quotes: the one where it should stand, and the next.
 fn find_quotes(line: &[u8]) -> Quotes
     requires { ⌜ 2 < length (now line) ⌝ }
     ensures { λ r. ⌜ r ≡ quotes (now (line .entry)) ⌝ }

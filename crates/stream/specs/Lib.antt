@@ -1,2 +1,2 @@
--- A stream of bytes, served to its end.
+-- A stream of bytes, served while there is room for a reply.
 pub mod Stream

@@ -32,7 +32,7 @@ pub fn module_fits(rows: &[[i32; 8]; 50], kind: u8, values: &[i64]) -> bool
     true
 }
 
-// Whether a list is as long as the table's parameters are many, and each entry is permitted for its row.
+// Whether a list has one entry for each parameter, and each is permitted.
 pub fn are_sound(table: &[u8], rows: &[[i32; 8]; 50], values: &[i64]) -> bool
     requires { ⌜ (sound (now table) ≡ true) × (now rows ≡ numbers) ⌝ }
     ensures { λ r. ⌜ r ≡ valuesSound (now (table .entry)) (now (values .entry)) ⌝ }

@@ -43,14 +43,14 @@ chosenPermitted selection (p ∷ ps) (w ∷ ws) = (not (chosen selection p) || p
 unfoldable pub wantedRight : (table selection : List ℕ) → (wanted : List ℤ) → Bool
 wantedRight t selection ws = eqb (length ws) (length (parameters t)) && chosenPermitted selection (parameters t) ws
 
--- each parameter of a chosen module is to have its wanted value, and each other its present one
+-- what every parameter is to have: the wanted value in a chosen module, the present one in any other
 unfoldable pub targetOf : (selection : List ℕ) → List Parameter → (present wanted : List ℤ) → List ℤ
 targetOf selection [] vs ws = []
 targetOf selection (p ∷ ps) [] ws = []
 targetOf selection (p ∷ ps) (v ∷ vs) [] = []
 targetOf selection (p ∷ ps) (v ∷ vs) (w ∷ ws) = cond (chosen selection p) w v ∷ targetOf selection ps vs ws
 
--- wanted where the module is chosen, and else present
+-- the target list of a wish
 unfoldable pub target : Wish → List ℤ
 target w = targetOf (w .selection) (parameters (w .table)) (w .present) (w .wanted)
 

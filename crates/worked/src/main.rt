@@ -2,7 +2,6 @@
 mod play;
 mod say;
 
-use play::Tally;
 use play::play_room;
 
 // Plays one room, and says what came of it.

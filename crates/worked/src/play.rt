@@ -69,7 +69,7 @@ fn play_line(table: &[u8], values: &mut [i64], script: &[u8]) -> Played {
     Played { at: end, right }
 }
 
-// Plays a script on a sound table, from the start values.
+// Plays a script on a table, from the values given.
 fn play(table: &[u8], values: &mut [i64], script: &[u8]) -> Tally {
     let mut at = 0;
     let mut lines = 0;

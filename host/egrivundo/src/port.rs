@@ -4,8 +4,7 @@ use crate::Refusal;
 
 /// A port: the bytes of the unfinished line, and whether it has overrun.
 ///
-/// Two ports are equal when both have overrun, or neither has and their held
-/// bytes are equal.
+/// Equal are two overrun ports, and two others with the same held bytes.
 #[derive(Clone)]
 pub struct Port {
     pub(crate) bytes: [u8; Port::BYTES],

@@ -12,9 +12,9 @@ pub enum Refusal {
     Reply = 3,
     /// The port claims too many held bytes.
     Port = 4,
-    /// The selection has the wrong length, or a byte over 1.
+    /// The selection is too long, too short, or has a byte over 1.
     Selection = 5,
-    /// The wanted list has the wrong length, or an entry of a chosen module
+    /// The wanted list is too long or too short, or an entry of a chosen module
     /// is not permitted.
     Wanted = 6,
     /// A wanted change is beyond reach.

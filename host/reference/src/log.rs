@@ -11,8 +11,8 @@ pub struct Part {
     pub length: usize,
 }
 
-/// The part to show: the table's label if exactly one module bears the text
-/// between the first two quotes, else that text.
+/// The part to show: the label in the table where one module alone bears the
+/// text between the first quotes, else that text.
 pub fn part(table: &[u8], line: &[u8]) -> Part {
     let Some(table) = Table::new(table) else {
         return Part::default();

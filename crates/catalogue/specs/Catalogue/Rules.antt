@@ -1,5 +1,5 @@
--- What the whole catalogue obeys, each rule by one test over the table: low is below high, the step divides the span,
--- rows stand in rising order of type, index 1 and index 2, and no type has two rows with the same indices.
+-- What the whole catalogue obeys, each rule by one test over the table: every low is under its high, every span is whole steps,
+-- rows rise by type, index 1 and index 2, and within a type all indices differ.
 use mathlib.Core.Path.{_≡_, refl}
 use mathlib.Core.Bool.{Bool, true, false, not, _&&_, _||_}
 use Prim.Native.Nat.{ℕ, _%_, _<_}

@@ -1,4 +1,4 @@
--- The restore list has one line for each parameter of a chosen module that differs from the wanted.
+-- The restore list has as many lines as chosen modules have parameters that differ from the wanted.
 use mathlib.Core.Path.{_≡_, refl, ap}
 use mathlib.Core.Bool.{Bool, true, false, not, cond, _&&_}
 use mathlib.Core.List.{List, [], _∷_}

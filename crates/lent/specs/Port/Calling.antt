@@ -12,7 +12,7 @@ use Rattle.answer.specs.Answer.{answer}
 use Rattle.shape.specs.Shape.{lineLimit}
 use Rattle.serial_port.specs.Port.{View, view}
 use Rattle.serial_port.specs.Call.{Answers, Handed, Step, call, callNumber, step, tell, tells}
-use Rattle.serial_port.specs.Call.Serving.{test-held}
+use Rattle.text.specs.Every.{test-held}
 use Rattle.serial_port.specs.declared.port.Port.{Port}
 use Rattle.serial_port.specs.declared.port.Called.{Called}
 use Rattle.lent.specs.Port.{Left, PortCalled, Stores, bytesOf, counted, portAnswer, portLent, portNumber, portOf, portTells}

@@ -4,7 +4,7 @@ use mathlib.Core.Bool.{Bool, true, false, cond, not, _&&_}
 use mathlib.Core.List.{List}
 use Prim.Native.Nat.{ℕ, _+_, _-_, _≤_, _<_}
 use native.Mathlib.Omega.{arith}
-use borrow.Author.Tests.{not-true, not-false, lt-ltb, le-ltb}
+use borrow.Author.Tests.{not-true, lt-ltb, le-ltb}
 use lib.Dec.{ltb}
 use lib.ListN.{length, take, drop, length-take, length-drop}
 use lib.Seq.{take-all}
@@ -23,11 +23,9 @@ use Rattle.shape.specs.Shape.{firstFrom, part}
 use Rattle.log.specs.declared.LogPart.{LogPart}
 use Rattle.log.specs.declared.LogPart.the-variants.{Table, Line, Nothing}
 use Rattle.text.specs.Cut.Laws.{index-within}
+use Rattle.text.specs.Every.{test-held}
 
 -- ---- the table
-
-pub table-sound : (t : List ℕ) (b : Bool) → b ≡ sound t → not b ≡ false → sound t ≡ true
-table-sound t b e n = sym e ∙ not-false b n
 
 pub no-table : (t line : List ℕ) (b : Bool) → b ≡ sound t → not b ≡ true → Nothing ≡ logPart t line
 unfolding logPart
@@ -76,9 +74,9 @@ module _ (line : List ℕ) (first next : ℕ) (e : first ≡ indexOf 0x22 line) 
   unfolding logPart firstQuote
   both-quotes t c r q n h k =
       let l : ltb (secondQuote line) (length line) ≡ true = lt-ltb (secondQuote line) (length line) (rw second-is at h) in
-      rw (table-sound t c q n, l, ← second-is, ← e) k
+      rw (test-held c (sound t) q n, l, ← second-is, ← e) k
 
-pub ruleset finding = (table-sound, no-table, no-quote, behind-fits, found-fits, one-quote, both-quotes)
+pub ruleset finding = (test-held, no-table, no-quote, behind-fits, found-fits, one-quote, both-quotes)
 
 -- ---- the module that bears the text
 

@@ -6,7 +6,7 @@ use Prim.Native.Nat.{ℕ, _+_, _≤_, _<_}
 use native.Mathlib.Nat.{zero-add}
 use native.Mathlib.Numerals.{add-one}
 use native.Mathlib.Omega.{arith}
-use borrow.Author.Tests.{not-true, not-false, leb-true, lt-ltb, le-ltb}
+use borrow.Author.Tests.{not-true, leb-true, lt-ltb, le-ltb}
 use lib.Dec.{leb}
 use lib.IntN.{ℤ}
 use lib.ListN.{length, take}
@@ -26,12 +26,9 @@ use Rattle.serial_port.specs.Call.Laws.{accepted}
 use Rattle.serial_port.specs.Call.Rules.{number-table, number-values, number-buffer, number-claim, returns-refused, returns-waiting, returns-finished}
 use Rattle.serial_port.specs.declared.port.Port.{Port}
 use Rattle.text.specs.Cut.Laws.{index-within}
+use Rattle.text.specs.Every.{test-held}
 
 -- ---- the number
-
--- a test that was passed
-pub test-held : (b s : Bool) → b ≡ s → not b ≡ false → s ≡ true
-test-held b s e n = sym e ∙ not-false b n
 
 module _ (t : List ℕ) (vs : List ℤ) (replyRoom claimed : ℕ) (a : Bool) (ea : a ≡ sound t) where
   pub tells-table : not a ≡ true → 1 ≡ callNumber t vs replyRoom claimed

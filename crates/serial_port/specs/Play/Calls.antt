@@ -29,8 +29,8 @@ pub record Made : Type 0 where
   pub values : List ℤ
   pub after : List ℕ
 
--- calls that play bs from port p and values vs on, until every byte is consumed: each gets all bytes not yet consumed, the port and the
--- values that the call before left, and a reply buffer of at least 64 bytes, and answers as promised
+-- calls that play bs from port p and values vs on: each is given what is left, the port and the values of the call before, and 64 bytes or more
+-- for its reply, and answers as promised; the last leaves nothing
 abbrev pub Plays : (table : List ℕ) → List Made → Port → List ℤ → List ℕ → Type 0
 Plays t [] p vs bs = bs ≡ []
 Plays t (c ∷ cs) p vs bs =

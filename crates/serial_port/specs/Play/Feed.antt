@@ -140,7 +140,7 @@ module _ (answer : Answering) where
   unfolding finish
   feed-line vs l rest k h = feed-collected vs l rest h ∙ rw (join-fresh l k) refl
 
-  -- a longer line: one 99, and the next line is read afresh
+  -- a longer line: one 99, and a fresh port for what follows
   pub feed-overrun : (vs : List ℤ) (l rest : List ℕ) → lineLimit < length l → has 0x0D l ≡ false
       → feed answer fresh vs (l ++ 0x0D ∷ rest) ≡ replyFirst (nak 99) (feed answer fresh vs rest)
   unfolding finish finished

@@ -1,4 +1,4 @@
--- Laws of the target list: it is right for the table, and it differs where chosen modules' parameters differ from the wanted.
+-- Laws of the target list: as long as the value list, and right for the table.
 use mathlib.Core.Path.{_≡_, refl, ap}
 use mathlib.Core.Bool.{Bool, true, false, not, cond, _||_}
 use mathlib.Core.List.{List, [], _∷_}
