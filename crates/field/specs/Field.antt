@@ -1,6 +1,5 @@
 -- The label's field of a record: a label, and then zero bytes.
 pub mod Bytes
-pub mod Every
 pub mod Rules
 pub mod Run
 pub mod Tally

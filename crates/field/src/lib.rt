@@ -27,14 +27,7 @@ pub fn label_right(text: &[u8]) -> bool
     if 32 < text.len() {
         return false;
     }
-    let mut i = 0;
-    while i < text.len() {
-        if !label_byte(text[i]) {
-            return false;
-        }
-        i += 1;
-    }
-    true
+    label_run(text) == text.len()
 }
 
 // How many bytes of a field are zero.

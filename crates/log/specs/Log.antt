@@ -24,7 +24,7 @@ firstQuote line = indexOf 0x22 line
 unfoldable pub secondQuote : List ℕ → ℕ
 secondQuote line = firstFrom 0x22 (firstQuote line + 1) line
 
--- of a text that one module alone bears its label in the table, of any other the text in the line
+-- for a text that one module alone bears, its label in the table; for any other, the text in the line
 unfoldable pub shown : (start end : ℕ) → Bearer → LogPart
 shown start end (Only m) = Table (m .place + 1) (m .place + 1 + (end - start))
 shown start end NotOne = Line start end

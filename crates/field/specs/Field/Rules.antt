@@ -1,14 +1,14 @@
 -- What the tests of a label leave, for each of their answers.
-use mathlib.Core.Path.{_≡_, refl, sym, _∙_}
+use mathlib.Core.Path.{_≡_, refl}
 use mathlib.Core.Bool.{Bool, true, false, not, _&&_}
 use mathlib.Core.List.{List}
-use Prim.Native.Nat.{ℕ, _+_, _≤_, _<_}
+use Prim.Native.Nat.{ℕ, _≤_, _<_}
 use native.Mathlib.Omega.{arith}
-use borrow.Author.Tests.{ne-eqb, le-leb, lt-leb, not-true, not-false}
+use borrow.Author.Tests.{ne-eqb, le-leb, lt-leb}
 use lib.Dec.{eqb, leb}
-use lib.ListN.{length, getD}
+use lib.ListN.{length}
 use Rattle.field.specs.Field.{labelByte, labelRight}
-use Rattle.field.specs.Field.Every.{Passed, passed-start, passed-next, passed-not, passed-all}
+use Rattle.field.specs.Field.Run.{run, run-every}
 
 -- ---- a byte of a label
 
@@ -41,23 +41,9 @@ pub label-long : (s : List ℕ) (k : ℕ) → 32 ≤ k → k < length s → fals
 unfolding labelRight
 label-long s k b l = rw (le-leb 1 (length s) (omega arith), lt-leb (length s) 32 (omega arith))
 
-pub label-next : (s : List ℕ) (i : ℕ) (t : Bool) → Passed labelByte s 0 i → i < length s → t ≡ labelByte (getD s i 0) → not t ≡ false
-    → Passed labelByte s 0 (i + 1)
-label-next s i t p l e n = passed-next labelByte s 0 i p l (sym e ∙ not-false t n)
-
-pub label-not : (s : List ℕ) (i : ℕ) (t : Bool) → Passed labelByte s 0 i → i < length s → t ≡ labelByte (getD s i 0) → not t ≡ true
-    → false ≡ labelRight s
+-- as many bytes at its beginning may stand in a label as it has
+pub label-all : (s : List ℕ) (n : ℕ) → 1 ≤ length s → length s ≤ 32 → n ≡ run labelByte s → eqb n (length s) ≡ labelRight s
 unfolding labelRight
-label-not s i t p l e n =
-    let a = passed-not labelByte s 0 i p l (sym e ∙ not-true t n) in
-    rw (← a) (neither (leb 1 (length s) && leb (length s) 32))
-  where
-    neither : (b : Bool) → false ≡ (b && false)
-    neither true = refl
-    neither false = refl
+label-all s n a b e = rw (le-leb 1 (length s) a, le-leb (length s) 32 b, e) (run-every labelByte s)
 
-pub label-all : (s : List ℕ) (i : ℕ) → 1 ≤ length s → length s ≤ 32 → Passed labelByte s 0 i → length s ≤ i → true ≡ labelRight s
-unfolding labelRight
-label-all s i a b p l = rw (le-leb 1 (length s) a, le-leb (length s) 32 b) (passed-all labelByte s 0 i p l)
-
-pub ruleset labels = (byte-low, byte-high, byte-quote, passed-start, label-short, label-long, label-next, label-not, label-all)
+pub ruleset labels = (byte-low, byte-high, byte-quote, label-short, label-long, label-all)

@@ -1,8 +1,8 @@
 -- A field: the bytes at its beginning that may stand in a label are the label, where only zero bytes follow.
 use mathlib.Core.Path.{_≡_, refl, ap, sym, _∙_}
-use mathlib.Core.Bool.{Bool, true, false, cond, not}
+use mathlib.Core.Bool.{Bool, true, false, cond, not, _&&_}
 use mathlib.Core.List.{List, [], _∷_}
-use Prim.Native.Nat.{ℕ, suc, _+_, _-_, _≤_, _<_}
+use Prim.Native.Nat.{ℕ, suc, compare·suc-suc, _+_, _-_, _≤_, _<_}
 use native.Mathlib.Numerals.{add-one}
 use native.Mathlib.Omega.{arith}
 use borrow.Author.Tests.{eqb-true, le-leb, ne-eqb, not-true, not-false}
@@ -38,6 +38,16 @@ run-each test (b ∷ s) = go (test b) refl (run-each test s)
     go : (t : Bool) → test b ≡ t → every test (take (run test s) s) ≡ true → every test (take (cond t (suc (run test s)) 0) (b ∷ s)) ≡ true
     go true e h = rw e h
     go false e h = refl
+
+-- every byte meets the test where as many at the beginning do as there are
+pub run-every : (test : ℕ → Bool) (s : List ℕ) → eqb (run test s) (length s) ≡ every test s
+unfolding run every
+run-every test [] = refl
+run-every test (b ∷ s) = go (test b) (run-every test s)
+  where
+    go : (t : Bool) → eqb (run test s) (length s) ≡ every test s → eqb (cond t (suc (run test s)) 0) (suc (length s)) ≡ (t && every test s)
+    go true h = simp compare·suc-suc h
+    go false h = ne-eqb 0 (suc (length s)) (λ q. omega arith)
 
 -- ---- the pass over the bytes
 
