@@ -3,12 +3,8 @@ pub mod Distinct
 pub mod Each
 pub mod Fits
 pub mod Laws
-pub mod Numbers
-pub mod Permitting
-pub mod Reading
 pub mod Rules
 pub mod Sized
-pub mod Taking
 use mathlib.Core.Bool.{Bool, true, false, cond, _&&_}
 use mathlib.Core.List.{List, [], _∷_, map}
 use Prim.Native.Nat.{ℕ, suc}

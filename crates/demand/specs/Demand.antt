@@ -7,6 +7,8 @@ use mathlib.Core.Bool.{true, false}
 use mathlib.Core.List.{List}
 use Prim.Native.Nat.{ℕ, _≤_, _<_}
 use lib.ListN.{length, take, replicate}
+use Rattle.text.specs.Byte.{isByte}
+use Rattle.text.specs.Every.{every}
 use Rattle.parameter.specs.Parameters.{parameters}
 use Rattle.room.specs.Table.{sound}
 use Rattle.values.specs.Values.{valuesSound}
@@ -30,8 +32,9 @@ pub record Fulfils (w : Wish) (replyRooms : ℕ → ℕ) (bs : List ℕ) : Type 
   pub served : play (w .table) replyRooms (w .present) bs .refused ≡ false
   pub reached : play (w .table) replyRooms (w .present) bs .values ≡ target w
 
--- a shortest one of all byte sequences that fulfil the wish
+-- a shortest one of all byte sequences that fulfil the wish; no list with other numbers in it is shorter either
 pub record Shortest (w : Wish) (replyRooms : ℕ → ℕ) (list : List ℕ) : Type 0 where
+  pub bytes : every isByte list ≡ true
   pub fulfils : Fulfils w replyRooms list
   pub least : (bs : List ℕ) → Fulfils w replyRooms bs → length list ≤ length bs
 

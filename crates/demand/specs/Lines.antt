@@ -9,7 +9,9 @@ use mathlib.Core.List.{List}
 use Prim.Native.Nat.{ℕ, suc, _+_, _≤_}
 use lib.IntN.{ℤ, pos}
 use lib.ListN.{length, getD, set}
+use Rattle.text.specs.Byte.{isByte}
 use Rattle.text.specs.Cut.{has}
+use Rattle.text.specs.Every.{every}
 use Rattle.row.specs.Row.{permitted}
 use Rattle.label.specs.Label.{label, bearer}
 use Rattle.parameter.specs.Parameters.{parameters, place, parameterAt}
@@ -39,8 +41,9 @@ pub data Effect (t : List ℕ) (vs : List ℤ) (l : List ℕ) : Type 0 where
   puts : (p : Parameter) (x : ℤ) → Settable t p → answer t vs l .values ≡ set vs (place p) x
       → ((target : ℤ) → price t p target (getD vs (place p) (pos 0)) ≤ length l + 1 + price t p target x) → Effect t vs l
 
--- the set line that is written is one line, fits the port, is acknowledged and sets its parameter
+-- the set line that is written is one line of bytes, fits the port, is acknowledged and sets its parameter
 pub record Said (t : List ℕ) (p : Parameter) (x : ℤ) (l : List ℕ) : Type 0 where
+  pub bytes : every isByte l ≡ true
   pub whole : has 0x0D l ≡ false
   pub fits : length l ≤ lineLimit
   pub answered : (vs : List ℤ) → answer t vs l ≡ record { reply = ack; values = set vs (place p) x }

@@ -1,5 +1,5 @@
 // Which module alone bears a text, and how long a label is.
-use catalogue::rows::row_count;
+use catalogue::row_count;
 use field::label_right;
 use room::table::Module;
 use room::table::body_length;

@@ -11,13 +11,12 @@ use mir.Syntax.{w64}
 use mir.Val.{Fits, SFits}
 use mir.Facts.{toZ-ofZ}
 use Rattle.text.specs.Digits.{digits}
-use Rattle.text.specs.Digits.Laws.{one-digit}
+use Rattle.text.specs.Digits.Laws.{more-length, one-digit}
 use Rattle.text.specs.Digits.Value.{digits-short}
 use Rattle.level.specs.Level.{signText, shortTenthText, wholeText, levelText}
 use Rattle.level.specs.Level.Laws.{sign-short}
-use Rattle.level.specs.Level.Told.{tenth-short}
+use Rattle.level.specs.Level.Told.{short-none, short-some, tenth-long, tenth-short}
 use Rattle.level.specs.Level.Sign.{kept, sign-minus, sign-none, kept-size-fits}
-use Rattle.written.specs.Written.Writing.{more-length, short-none, short-some, tenth-long}
 
 -- ---- numbers
 

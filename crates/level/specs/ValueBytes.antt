@@ -3,17 +3,20 @@ use mathlib.Core.Path.{_≡_, refl}
 use mathlib.Core.Bool.{Bool, true, false, cond, _||_}
 use mathlib.Core.List.{List, [], _∷_}
 use Prim.Native.Nat.{ℕ, zero, suc, _+_, _/_, _%_, _<_}
+use native.Mathlib.Decide.{decLt}
 use native.Mathlib.Omega.{arith}
-use lib.Dec.{eqb}
+use borrow.Author.Tests.{le-leb, lt-leb, lt-ltb, ne-eqb}
+use lib.Dec.{eqb, leb, ltb}
 use lib.IntN.{ℤ, pos, negsuc, natAbs}
 use lib.ListN.{length}
+use Rattle.text.specs.Byte.{isByte}
 use Rattle.text.specs.Cut.{indexOf}
 use Rattle.text.specs.Cut.Laws.{index-none}
 use Rattle.text.specs.Digits.{isDigit, allDigits, digits}
 use Rattle.text.specs.Digits.Laws.{is-digit, digit-and-rest, digits-are-digits}
 use Rattle.level.specs.Level.{signText, tenthText, shortTenthText, wholeText, levelText, oneDecimalText}
 use Rattle.text.specs.Switch.{switchText}
-use Rattle.text.specs.Every.{every, every-append}
+use Rattle.text.specs.Every.{every, every-append, every-weaker, never}
 
 -- a digit, `-`, `.`, `F` or `O`
 unfoldable pub valueByte : ℕ → Bool
@@ -86,3 +89,25 @@ no-other b s n h = index-none valueByte b s h n
 pub others : (valueByte 0 ≡ false) × (valueByte 13 ≡ false) × (valueByte 34 ≡ false) × (valueByte 61 ≡ false) × (valueByte 62 ≡ false)
 unfolding valueByte isDigit
 others = (refl, refl, refl, refl, refl)
+
+-- ---- they are bytes
+
+below-256 : (b : ℕ) → valueByte b ≡ true → isByte b ≡ true
+unfolding valueByte isDigit isByte
+below-256 b h = go (decLt b 256)
+  where
+    go : Dec (b < 256) → ltb b 256 ≡ true
+    go (yes l) = lt-ltb b 256 l
+    go (no n) =
+        never
+        (rw (
+          le-leb 48 b (omega arith),
+          lt-leb b 57 (omega arith),
+          ne-eqb b 45 (λ e. omega arith),
+          ne-eqb b 46 (λ e. omega arith),
+          ne-eqb b 70 (λ e. omega arith),
+          ne-eqb b 79 (λ e. omega arith),
+        ) at h)
+
+pub are-bytes : (s : List ℕ) → every valueByte s ≡ true → every isByte s ≡ true
+are-bytes s h = every-weaker valueByte isByte below-256 s h

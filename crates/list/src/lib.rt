@@ -1,6 +1,6 @@
 // Writing the restore list: the lines one behind the other, each into what is left of the buffer.
-use catalogue::rows::row_count;
-use catalogue::rows::row_of;
+use catalogue::row_count;
+use catalogue_row::row_of;
 use label::label_length;
 use parameter::Parameter;
 use room::table::Module;

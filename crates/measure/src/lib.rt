@@ -1,6 +1,6 @@
 // How long the restore list is, and whether every wanted change is within reach.
-use catalogue::rows::row_count;
-use catalogue::rows::row_of;
+use catalogue::row_count;
+use catalogue_row::row_of;
 use label::Bearer;
 use label::find_bearer;
 use label::label_length;

@@ -1,6 +1,6 @@
 // Parameters: the rows of the modules.
-use catalogue::rows::row_count;
-use catalogue::rows::row_of;
+use catalogue::row_count;
+use catalogue_row::row_of;
 use room::table::Module;
 use room::table::body_length;
 use row::Indices;

@@ -1,5 +1,5 @@
 // Serving standard input: what a read gives is answered whole before the next.
-use catalogue::rows::all_rows;
+use catalogue::all_rows;
 use libc::STDIN_FILENO;
 use libc::STDOUT_FILENO;
 use serial_port::port::Port;

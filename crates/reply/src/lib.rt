@@ -1,12 +1,12 @@
 // Replies, written at the start of the reply buffer.
 use label::label_length;
 use level::sign::magnitude;
+use level_written::put_level_one_decimal;
 use name::put_front;
 use parameter::Parameter;
 use row::Kind;
 use written::put_byte;
 use written::put_bytes;
-use written::put_level_one_decimal;
 use written::put_number;
 use written::put_switch;
 ghost use Prim.Native.Nat.{_+_, _<_, _≤_};

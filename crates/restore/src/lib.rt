@@ -1,5 +1,5 @@
 // The restore call.
-use catalogue::rows::all_rows;
+use catalogue::all_rows;
 use demand::Restored;
 use list::write;
 use measure::Measured;

@@ -1,5 +1,5 @@
 // The module table.
-use catalogue::rows::row_count;
+use catalogue::row_count;
 use field::field_sound;
 ghost use mathlib.Core.Bool.{true};
 ghost use mathlib.Core.Path.{_≡_};

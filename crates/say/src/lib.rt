@@ -1,14 +1,13 @@
 // The set line that takes a parameter from its present to its wanted value: its length, and writing it at the start of a buffer.
-use label::label_length;
 use length::level_length;
 use length::number_length;
 use level::sign::magnitude;
+use level_written::put_level;
 use name::name_length;
 use name::put_front;
 use parameter::Parameter;
 use row::Kind;
 use written::put_byte;
-use written::put_level;
 use written::put_number;
 use written::put_switch;
 ghost use mathlib.Core.List.{[], _∷_, _++_};
@@ -28,18 +27,6 @@ fn text_length(kind: Kind, v: i64) -> usize
         Kind::Switch => 1,
         Kind::Number => number_length(magnitude(v)),
     }
-}
-
-// How long the set line is, without its 0D.
-pub fn say_length(table: &[u8], p: Parameter, present: i64, wanted: i64) -> usize
-    requires { ⌜ p .owner .place + 33 ≤ length (now table) ⌝ }
-    ensures { λ r. ⌜ r ≡ length (say (now (table .entry)) p present wanted) ⌝ }
-{
-    let row = p.row;
-    let kind = row.kind;
-    let owner = p.owner;
-    let size = label_length(table, owner.place);
-    3 + name_length(table, p, size) + text_length(kind, wanted)
 }
 
 // How long the set line is with its 0D, where the label is `size` bytes long.
@@ -64,26 +51,7 @@ fn put_text(buffer: &mut [u8], at: usize, kind: Kind, v: i64) -> usize
     }
 }
 
-// The set line, without its 0D, where the label is `size` bytes long.
-pub fn put_say(
-    table: &[u8],
-    p: Parameter,
-    size: usize,
-    present: i64,
-    wanted: i64,
-    buffer: &mut [u8],
-) -> usize
-    requires { ⌜ (p .owner .place + 33 ≤ length (now table)) × (size ≡ length (label (now table) (p .owner))) ⌝ }
-    requires { ⌜ length (say (now table) p present wanted) ≤ length (now buffer) ⌝ }
-    ensures { λ r. ⌜ Wrote (now (buffer .entry)) 0 (say (now (table .entry)) p present wanted) r (now (buffer .exit)) ⌝ }
-{
-    let row = p.row;
-    let kind = row.kind;
-    let next = put_front(table, p, size, b'S', buffer);
-    put_text(buffer, next, kind, wanted)
-}
-
-// The set line and its 0D.
+// The set line and its 0D, where the label is `size` bytes long.
 pub fn put_say_line(
     table: &[u8],
     p: Parameter,
@@ -96,6 +64,9 @@ pub fn put_say_line(
     requires { ⌜ length (say (now table) p present wanted ++ (0x0D ∷ [])) ≤ length (now buffer) ⌝ }
     ensures { λ r. ⌜ Wrote (now (buffer .entry)) 0 (say (now (table .entry)) p present wanted ++ (0x0D ∷ [])) r (now (buffer .exit)) ⌝ }
 {
-    let end = put_say(table, p, size, present, wanted, buffer);
+    let row = p.row;
+    let kind = row.kind;
+    let next = put_front(table, p, size, b'S', buffer);
+    let end = put_text(buffer, next, kind, wanted);
     put_byte(buffer, end, 0x0D)
 }

@@ -1,6 +1,6 @@
 // The port: it collects bytes into lines, and answers each line once.
 use answer::answer_line;
-use catalogue::rows::all_rows;
+use catalogue::all_rows;
 use reply::put_nak;
 use room::table::is_sound;
 use text::cut::find;

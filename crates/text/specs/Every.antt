@@ -40,6 +40,12 @@ module _ {A : Type 0} where
   every-append test [] m p q = q
   every-append test (a ∷ l) m p q = let h = every-both test a l p in rw (h .0) (every-append test l m (h .1) q)
 
+  -- what passes one test passes every test that follows from it
+  pub every-weaker : (test other : A → Bool) → ((a : A) → test a ≡ true → other a ≡ true) → (l : List A) → every test l ≡ true → every other l ≡ true
+  unfolding every
+  every-weaker test other f [] e = refl
+  every-weaker test other f (a ∷ l) e = let h = every-both test a l e in rw (f a (h .0)) (every-weaker test other f l (h .1))
+
   -- what a test of the whole list shows of the element at a place
   pub every-at : (test : A → Bool) (l : List A) (d : A) → every test l ≡ true → (i : ℕ) → i < length l → test (getD l i d) ≡ true
   unfolding every

@@ -1,4 +1,5 @@
--- What the contracts of `text` say: cutting at a byte, decimal digits, numbers and switches as text.
+-- What the contracts of `text` say: bytes, cutting at one, decimal digits, numbers and switches as text.
+pub mod Byte
 pub mod Cut
 pub mod Digits
 pub mod Every

@@ -1,7 +1,7 @@
 // The value list: one value for each parameter.
-use catalogue::permit::row_permits;
-use catalogue::rows::first_row;
-use catalogue::rows::row_count;
+use catalogue::first_row;
+use catalogue::row_count;
+use catalogue_row::row_permits;
 use parameter::ParameterFound;
 use parameter::parameter_at;
 use parameter::parameter_count;

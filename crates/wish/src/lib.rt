@@ -1,5 +1,5 @@
 // The wish: whether the selection and the wanted values are right for the table.
-use catalogue::rows::row_count;
+use catalogue::row_count;
 use room::table::body_length;
 use values::module_fits;
 ghost use mathlib.Core.Bool.{not, true, _||_};

@@ -1,4 +1,4 @@
--- The set line that is written has no 0D and reads back as a put of its value.
+-- The set line that is written is made of bytes, has no 0D, and reads back as a put of its value.
 use mathlib.Core.Path.{_≡_, refl}
 use mathlib.Core.Bool.{true}
 use mathlib.Core.List.{List, append-assoc}
@@ -6,8 +6,10 @@ use Prim.Native.Nat.{ℕ, _≤_}
 use native.Mathlib.Omega.{arith}
 use lib.IntN.{ℤ, pos}
 use lib.ListN.{length, getD, set}
+use Rattle.text.specs.Byte.{isByte}
 use Rattle.text.specs.Cut.{indexOf}
 use Rattle.text.specs.Digits.{isDigit}
+use Rattle.text.specs.Every.{every}
 use Rattle.level.specs.ValueBytes.{valueByte}
 use Rattle.label.specs.Label.{label, bearer}
 use Rattle.parameter.specs.Parameters.{parameters, parameterAt, place}
@@ -18,6 +20,7 @@ use Rattle.label.specs.declared.Bearer.the-variants.{Only}
 use Rattle.parameter.specs.declared.Parameter.{Parameter}
 use Rattle.parameter.specs.declared.ParameterFound.the-variants.{At}
 use Rattle.shape.specs.Shape.Laws.{setLine}
+use Rattle.answer.specs.Said.Bytes.{say-bytes}
 use Rattle.answer.specs.Said.Texts.{text-back, text-short, text-lacks}
 use Rattle.meaning.specs.Meaning.{meaning}
 use Rattle.meaning.specs.Meaning.Laws.{puts-back}
@@ -43,17 +46,19 @@ naming-whole t p r w h =
 
 -- a line without 0D that puts x at p
 pub record Said (t : List ℕ) (p : Parameter) (x : ℤ) (line : List ℕ) : Type 0 where
+  pub bytes : every isByte line ≡ true
   pub whole : indexOf 0x0D line ≡ length line
   pub short : length line ≤ 50
   pub means : (vs : List ℤ) → meaning t vs line ≡ Put p x
 
-naming-said : (t : List ℕ) (p : Parameter) (x : ℤ) → Reached t p → p .row .settable ≡ true → permitted (p .row) x ≡ true
+naming-said : (t : List ℕ) (p : Parameter) (v x : ℤ) → Reached t p → p .row .settable ≡ true → permitted (p .row) x ≡ true
     → Said t p x (naming t p (setText (p .row .kind) x))
-naming-said t p x r s h =
+naming-said t p v x r s h =
     let z = reached-sized t p r x h in
     let w = setText (p .row .kind) x in
     let short = text-short (p .row .kind) x z in
     record {
+      bytes = rw (say-naming t p v x) at (say-bytes t p v x (r .right));
       whole = naming-whole t p r w (no-return (p .row .kind) x);
       short = naming-short t p r w short;
       means = λ vs. puts-back t vs (naming t p w) p x
@@ -64,7 +69,7 @@ naming-said t p x r s h =
 -- the set line of a value that p's row permits
 pub say-said : (t : List ℕ) (k : ℕ) (p : Parameter) (v x : ℤ) → sound t ≡ true → parameterAt (parameters t) k ≡ At p
     → bearer t (label t (p .owner)) ≡ Only (p .owner) → p .row .settable ≡ true → permitted (p .row) x ≡ true → Said t p x (say t p v x)
-say-said t k p v x s e o w h = rw (say-naming t p v x) (naming-said t p x (reached t k p s e o) w h)
+say-said t k p v x s e o w h = rw (say-naming t p v x) (naming-said t p v x (reached t k p s e o) w h)
 
 -- whatever some line can put, the set line that is written puts
 pub say-puttable : (t : List ℕ) (p : Parameter) (v x : ℤ) → sound t ≡ true → Puttable t p x → Said t p x (say t p v x)

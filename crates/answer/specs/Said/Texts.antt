@@ -1,6 +1,6 @@
 -- Value texts as they are written: both read back, none is longer than five bytes, and no set text of the same value is shorter.
 use mathlib.Core.Path.{_≡_, refl}
-use mathlib.Core.Bool.{false}
+use mathlib.Core.Bool.{true, false}
 use mathlib.Core.List.{List}
 use Prim.Native.Nat.{ℕ, _≤_}
 use native.Mathlib.Omega.{arith}
@@ -9,6 +9,7 @@ use lib.ListN.{length}
 use Rattle.text.specs.Cut.{indexOf}
 use Rattle.text.specs.Digits.{digits}
 use Rattle.text.specs.Digits.Value.{digits-short}
+use Rattle.text.specs.Every.{every}
 use Rattle.level.specs.Level.{readLevel, levelText, oneDecimalText}
 use Rattle.level.specs.Level.Laws.{level-at-most-five, decimal-at-most-five, level-shortest, level-back, decimal-back}
 use Rattle.text.specs.Number.{readNumber}
@@ -66,11 +67,14 @@ reply-short k x (row.number n h) = digits-short n 5 (omega arith) h
 
 -- ---- no byte but a value's
 
-pub text-lacks : (b : ℕ) (k : Kind) (x : ℤ) → valueByte b ≡ false → indexOf b (setText k x) ≡ length (setText k x)
+pub text-bytes : (k : Kind) (x : ℤ) → every valueByte (setText k x) ≡ true
 unfolding setText
-text-lacks b kind.Level x n = no-other b (levelText x) n (level-bytes x)
-text-lacks b kind.Switch x n = no-other b (switchText (natAbs x)) n (switch-bytes (natAbs x))
-text-lacks b kind.Number x n = no-other b (digits (natAbs x)) n (digits-bytes (natAbs x))
+text-bytes kind.Level x = level-bytes x
+text-bytes kind.Switch x = switch-bytes (natAbs x)
+text-bytes kind.Number x = digits-bytes (natAbs x)
+
+pub text-lacks : (b : ℕ) (k : Kind) (x : ℤ) → valueByte b ≡ false → indexOf b (setText k x) ≡ length (setText k x)
+text-lacks b k x n = no-other b (setText k x) n (text-bytes k x)
 
 pub reply-lacks : (b : ℕ) (k : Kind) (x : ℤ) → valueByte b ≡ false → indexOf b (replyText k x) ≡ length (replyText k x)
 unfolding replyText

@@ -30,7 +30,7 @@ use Rattle.demand.specs.Listing.{changes, listing, allReachable, wishNum
 use Rattle.demand.specs.Listing.Beyond.{beyond}
 use Rattle.demand.specs.Listing.Numbers.{number-list}
 use Rattle.demand.specs.Listing.Counted.{lines-differing}
-use Rattle.demand.specs.Listing.Played.{all-sayable, from-start, done, play-listing}
+use Rattle.demand.specs.Listing.Played.{AllSayable, all-sayable, from-start, done, listing-bytes, play-listing}
 use Rattle.demand.specs.Demand.{Admitted, Fulfils, Shortest, Listed, Demanded, accepted, unreachable, no-room, DemandThree, tells, Restores}
 use Rattle.demand.specs.declared.Restored.{Restored}
 use Rattle.values.specs.Values.Laws.{values-many, values-each}
@@ -62,17 +62,24 @@ module _ (w : Wish) (lines : Lines (w .table)) (admitted : Admitted w) (replyRoo
 
   -- ---- where no change is beyond reach, the list fulfils the wish
 
+  sayable : allReachable (w .table) (changes w) ≡ true → AllSayable (w .table) (changes w)
+  unfolding changes
+  sayable r =
+      let t = w .table in
+      all-sayable t lines 0 (parameters t) (w .present) (target w) (from-start t) (values-each t (target w) target-is-right) r
+
   listed : allReachable (w .table) (changes w) ≡ true → play (w .table) replyRooms (w .present) (list w) ≡ done (length (changes w)) (target w)
   unfolding list changes
   listed r =
       let t = w .table in
       played (list w)
-      ∙ play-listing t lines (w .present) (target w) (values-many t (w .present) (admitted .present)) (values-many t (target w) target-is-right)
-      (all-sayable t lines 0 (parameters t) (w .present) (target w) (from-start t) (values-each t (target w) target-is-right) r)
+      ∙ play-listing t lines (w .present) (target w) (values-many t (w .present) (admitted .present)) (values-many t (target w) target-is-right) (sayable r)
 
   shortest : allReachable (w .table) (changes w) ≡ true → Shortest w replyRooms (list w)
+  unfolding list
   shortest r =
       record {
+        bytes = listing-bytes (w .table) lines (changes w) (sayable r);
         fulfils =
             record {
               served = ap (λ p. p .refused) (listed r) ∙ unfold done in refl;

@@ -62,7 +62,7 @@ module _ (t : List ℕ) (is-sound : sound t ≡ true) where
   saying p v x h r =
       let l = say t p v x in
       let said = say-puttable t p v x is-sound (record { placed = h .listed; one = h .only; settable = h .settable; permits = r }) in
-      record { whole = has-not 0x0D l (said .whole); fits = omega (arith, said .short); answered = λ vs. said-answer t vs p x l said }
+      record { bytes = said .bytes; whole = has-not 0x0D l (said .whole); fits = omega (arith, said .short); answered = λ vs. said-answer t vs p x l said }
 
   pub promise : Lines t
   promise = record { placed = λ k p e. at-place t k p e .stands; effect = effects; says = saying }

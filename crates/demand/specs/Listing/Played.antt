@@ -9,7 +9,8 @@ use lib.IntN.{ℤ}
 use lib.ListN.{length, set, replicate, length-append}
 use lib.Seq.{append-snoc, set-at}
 use Rattle.row.specs.Row.{permitted}
-use Rattle.text.specs.Every.{both-left, both-right}
+use Rattle.text.specs.Byte.{isByte}
+use Rattle.text.specs.Every.{both-left, both-right, every, every-append}
 use Rattle.parameter.specs.Parameters.{parameters, place, parameterAt}
 use Rattle.values.specs.Values.{eachPermitted, equal}
 use Rattle.parameter.specs.declared.Parameter.{Parameter}
@@ -87,6 +88,15 @@ module _ (t : List ℕ) (lines : Lines t) where
         below (both-right (reachable t p) (allReachable t rest) r),
       )
 
+  -- the list is a byte sequence
+  pub listing-bytes : (cs : List Change) → AllSayable t cs → every isByte (listing t cs) ≡ true
+  unfolding listing lineOf every isByte
+  listing-bytes [] s = refl
+  listing-bytes (c ∷ cs) s =
+      let l = say t (c .parameter) (c .present) (c .target) in
+      let said = lines .says (c .parameter) (c .present) (c .target) (s .0 .settable) (s .0 .permits) in
+      every-append isByte (l ++ 0x0D ∷ []) (listing t cs) (every-append isByte l (0x0D ∷ []) (said .bytes) refl) (listing-bytes cs (s .1))
+
   -- one line of the list: an ACK, and its parameter has its target
   say-line : (c : Change) (vs : List ℤ) (rest : List ℕ) → Sayable t c
       → feed (answer t) fresh vs (lineOf t c ++ rest) ≡ replyFirst ack (feed (answer t) fresh (set vs (place (c .parameter)) (c .target)) rest)
@@ -96,7 +106,7 @@ module _ (t : List ℕ) (lines : Lines t) where
       let said = lines .says (c .parameter) (c .present) (c .target) (s .settable) (s .permits) in
       rw (append-assoc l (0x0D ∷ []) rest) (feed-line (answer t) vs l rest (said .fits) (said .whole) ∙ rw (said .answered vs) refl)
 
-  -- with the parameters before number k, and their values before, done
+  -- with the parameters before ps, whose values are `before`, done
   play-from : (before : List ℤ) (ps : List Parameter) (vs xs : List ℤ) → From t (length before) ps → length vs ≡ length ps → length xs ≡ length ps
       → AllSayable t (changesOf ps vs xs)
       → feed (answer t) fresh (before ++ vs) (listing t (changesOf ps vs xs)) ≡ done (length (changesOf ps vs xs)) (before ++ xs)

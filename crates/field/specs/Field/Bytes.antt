@@ -4,11 +4,12 @@ use mathlib.Core.Bool.{true, not, _&&_}
 use mathlib.Core.List.{List, [], _∷_}
 use Prim.Native.Nat.{ℕ, zero, suc, _≤_, _<_}
 use native.Mathlib.Omega.{arith}
-use borrow.Author.Tests.{eqb-false, leb-true, ne-eqb, not-true}
+use borrow.Author.Tests.{eqb-false, leb-true, lt-ltb, ne-eqb, not-true}
 use lib.Dec.{eqb, leb}
 use lib.ListN.{length, getD}
+use Rattle.text.specs.Byte.{isByte}
 use Rattle.text.specs.Cut.{indexOf}
-use Rattle.text.specs.Every.{both-left, both-right, every}
+use Rattle.text.specs.Every.{both-left, both-right, every, every-weaker}
 use Rattle.field.specs.Field.{labelByte, labelRight}
 
 pub record Printed (b : ℕ) : Type 0 where
@@ -62,3 +63,8 @@ label-no-quote s e = label-without 34 (λ p. p .unquoted refl) s (label-right s 
 
 pub label-no-return : (s : List ℕ) → labelRight s ≡ true → indexOf 13 s ≡ length s
 label-no-return s e = label-without 13 (λ p. omega arith) s (label-right s e .each)
+
+-- they are bytes
+pub label-bytes : (s : List ℕ) → labelRight s ≡ true → every isByte s ≡ true
+unfolding isByte
+label-bytes s e = every-weaker labelByte isByte (λ b l. lt-ltb b 256 (omega (arith, label-byte b l .high))) s (label-right s e .each)

@@ -30,6 +30,20 @@ unfolding shortTenthText tenthText
 tenth-short zero = omega arith
 tenth-short (suc d) = omega arith
 
+pub short-none : (d : ℕ) → d ≡ 0 → shortTenthText d ≡ []
+unfolding shortTenthText
+short-none zero e = refl
+short-none (suc d) e = absurd (omega arith)
+
+pub short-some : (d : ℕ) → (d ≡ 0 → ⊥) → shortTenthText d ≡ tenthText d
+unfolding shortTenthText
+short-some zero e = absurd (e refl)
+short-some (suc d) e = refl
+
+pub tenth-long : (d : ℕ) → length (tenthText d) ≡ 2
+unfolding tenthText
+tenth-long d = refl
+
 module _ (minus : Bool) (v : ℤ) where
   tenth-told : (w room : ℕ) (s : List ℕ) → w < 100 → length (digits w) ≤ room → levelTenth minus w s ≡ Tenths v → Told minus (room + 1 + length s) v
   unfolding levelTenth

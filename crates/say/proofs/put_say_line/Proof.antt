@@ -1,4 +1,4 @@
--- `put_say_line`: the set line, and 0D behind it.
+-- `put_say_line`: what stands before the value, the value behind it, and 0D.
 use borrow.Author.Needs.{needs}
 use Rattle.say.specs.Say.Writing.{line-writing}
 use Rattle.say.proofs.put_say_line.Statement.{statement}
@@ -8,6 +8,7 @@ pub put-say-line-spec : {M : Type 1} → statement M
 put-say-line-spec =
     tie.close
     (tie.spec
+    (λ c κs. search (line-writing, needs))
     (λ c κs. search (line-writing, needs))
     (λ c κs. search (line-writing, needs))
     (λ c. search (line-writing, needs))

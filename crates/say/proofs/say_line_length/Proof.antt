@@ -1,6 +1,6 @@
--- `say_line_length`: the set line and one byte more.
+-- `say_line_length`: the verb, the name, `=`, the value and 0D.
 use borrow.Author.Needs.{needs}
-use Rattle.say.specs.Say.Writing.{say-lengths}
+use Rattle.say.specs.Say.Writing.{line-length-is}
 use Rattle.say.proofs.say_line_length.Statement.{statement}
 use Rattle.say.proofs.say_line_length.Tie as tie
 
@@ -8,8 +8,8 @@ pub say-line-length-spec : {M : Type 1} → statement M
 say-line-length-spec =
     tie.close
     (tie.spec
-    (λ c κs. search (say-lengths, needs))
-    (λ c. search (say-lengths, needs))
-    (λ c κs. search (say-lengths, needs))
-    (λ c. search (say-lengths, needs))
-    (λ c. search (say-lengths, needs)))
+    (λ c κs. search needs)
+    (λ c. search needs)
+    (λ c κs. search needs)
+    (λ c. search needs)
+    (λ c. search (line-length-is, needs)))

@@ -61,16 +61,10 @@ pub ruleset text-lengths = (level-text-is, level-text-short, number-text-is, num
 
 -- ---- how long the line is
 
-module _ (t : List ℕ) (p : Parameter) (present wanted : ℤ) (n r : ℕ) (f : SFits w64 wanted)
-    (named : n ≡ length (name t p)) (valued : r ≡ length (setText (p .row .kind) (kept wanted))) where
-  pub say-length-is : 3 + n + r ≡ length (say t p present wanted)
-  unfolding say
-  say-length-is = simp length-append (rw (named, valued, toZ-ofZ f) (omega arith))
-
-  pub say-line-length-is : 4 + n + r ≡ length (say t p present wanted ++ (0x0D ∷ []))
-  say-line-length-is = let h = say-length-is in simp length-append (omega arith)
-
-pub ruleset say-lengths = (say-length-is, say-line-length-is)
+pub line-length-is : (t : List ℕ) (p : Parameter) (present wanted : ℤ) (n r : ℕ) → SFits w64 wanted → n ≡ length (name t p)
+    → r ≡ length (setText (p .row .kind) (kept wanted)) → 4 + n + r ≡ length (say t p present wanted ++ (0x0D ∷ []))
+unfolding say
+line-length-is t p present wanted n r f named valued = simp length-append (rw (named, valued, toZ-ofZ f) (omega arith))
 
 -- ---- a value, by its kind; a callee is handed it as the code keeps it
 
@@ -104,45 +98,35 @@ pub ruleset text-writing = (level-room, switch-room, number-room, wrote-level, w
 
 -- ---- the line
 
-say-parts : (t : List ℕ) (p : Parameter) (present wanted : ℤ) → say t p present wanted ≡ front 0x53 t p ++ setText (p .row .kind) wanted
+line-parts : (t : List ℕ) (p : Parameter) (present wanted : ℤ)
+    → say t p present wanted ++ (0x0D ∷ []) ≡ front 0x53 t p ++ (setText (p .row .kind) wanted ++ (0x0D ∷ []))
 unfolding say front
-say-parts t p present wanted = simp append-assoc
+line-parts t p present wanted = simp append-assoc
 
-say-kept : (t : List ℕ) (p : Parameter) (present wanted : ℤ) → SFits w64 present → SFits w64 wanted
-    → say t p (kept present) (kept wanted) ≡ say t p present wanted
-say-kept t p present wanted f g = rw (toZ-ofZ f, toZ-ofZ g)
-
-module _ (t : List ℕ) (p : Parameter) (present wanted : ℤ) (l : List ℕ) (verb : ℕ) (f : SFits w64 wanted) (room : length (say t p present wanted) ≤ length l) where
-  say-room : 0 + length (front verb t p ++ setText (p .row .kind) wanted) ≤ length l
-  say-room =
-      let h = rw (say-parts t p present wanted, length-append (front 0x53 t p)) at room in
+module _ (t : List ℕ) (p : Parameter) (present wanted : ℤ) (l : List ℕ) (verb : ℕ) (f : SFits w64 wanted)
+    (room : length (say t p present wanted ++ (0x0D ∷ [])) ≤ length l) where
+  line-room : 0 + length (front verb t p ++ (setText (p .row .kind) wanted ++ (0x0D ∷ []))) ≤ length l
+  line-room =
+      let h = rw (line-parts t p present wanted, length-append (front 0x53 t p)) at room in
       simp (length-append (front verb t p), same-front verb 0x53 t p) (omega arith)
 
-  pub say-first : length (front verb t p) ≤ length l
-  say-first =
-      let s = room-first (front verb t p) (setText (p .row .kind) wanted) 0 (length l) say-room in
+  pub line-front : length (front verb t p) ≤ length l
+  line-front =
+      let s = room-first (front verb t p) (setText (p .row .kind) wanted ++ (0x0D ∷ [])) 0 (length l) line-room in
       omega arith
 
-  pub say-second : (j : ℕ) (m : List ℕ) → Wrote l 0 (front verb t p) j m → j + length (setText (p .row .kind) (kept wanted)) ≤ length m
-  say-second j m w = rw (toZ-ofZ f) (room-second (front verb t p) (setText (p .row .kind) wanted) l 0 j m say-room w)
+  behind-front : (j : ℕ) (m : List ℕ) → Wrote l 0 (front verb t p) j m → j + length (setText (p .row .kind) wanted ++ (0x0D ∷ [])) ≤ length m
+  behind-front j m v = room-second (front verb t p) (setText (p .row .kind) wanted ++ (0x0D ∷ [])) l 0 j m line-room v
 
-pub wrote-say : (t : List ℕ) (p : Parameter) (present wanted : ℤ) (l : List ℕ) (j r : ℕ) (m k : List ℕ) → SFits w64 wanted → Wrote l 0 (front 0x53 t p) j m
-    → Wrote m j (setText (p .row .kind) (kept wanted)) r k → Wrote l 0 (say t p present wanted) r k
-wrote-say t p present wanted l j r m k f v w = rw (say-parts t p present wanted) (wrote-join v (rw (toZ-ofZ f) at w))
+  pub line-value : (j : ℕ) (m : List ℕ) → Wrote l 0 (front verb t p) j m → j + length (setText (p .row .kind) (kept wanted)) ≤ length m
+  line-value j m v = rw (toZ-ofZ f) (room-first (setText (p .row .kind) wanted) (0x0D ∷ []) j (length m) (behind-front j m v))
 
-pub ruleset say-writing = (say-first, say-second, wrote-say)
+  pub line-end : (j k : ℕ) (m n : List ℕ) → Wrote l 0 (front verb t p) j m → Wrote m j (setText (p .row .kind) (kept wanted)) k n → k + 1 ≤ length n
+  line-end j k m n v w =
+      room-second (setText (p .row .kind) wanted) (0x0D ∷ []) m j k n (behind-front j m v) (rw (toZ-ofZ f) at w)
 
-module _ (t : List ℕ) (p : Parameter) (present wanted : ℤ) (l : List ℕ) (f : SFits w64 present) (g : SFits w64 wanted) where
-  pub line-first : length (say t p present wanted ++ (0x0D ∷ [])) ≤ length l → length (say t p (kept present) (kept wanted)) ≤ length l
-  line-first h = rw (say-kept t p present wanted f g) (omega (arith, length-append (say t p present wanted) (0x0D ∷ [])))
+pub wrote-line : (t : List ℕ) (p : Parameter) (present wanted : ℤ) (l m n o : List ℕ) (j k r : ℕ) → SFits w64 wanted → Wrote l 0 (front 0x53 t p) j m
+    → Wrote m j (setText (p .row .kind) (kept wanted)) k n → Wrote n k (0x0D ∷ []) r o → Wrote l 0 (say t p present wanted ++ (0x0D ∷ [])) r o
+wrote-line t p present wanted l m n o j k r f u v w = rw (line-parts t p present wanted) (wrote-join u (wrote-join (rw (toZ-ofZ f) at v) w))
 
-  pub line-second : (j : ℕ) (m : List ℕ) → length (say t p present wanted ++ (0x0D ∷ [])) ≤ length l
-      → Wrote l 0 (say t p (kept present) (kept wanted)) j m → j + 1 ≤ length m
-  line-second j m h w =
-      room-second (say t p present wanted) (0x0D ∷ []) l 0 j m (from-start _ (length l) h) (rw (say-kept t p present wanted f g) at w)
-
-  pub wrote-line : (j r : ℕ) (m k : List ℕ) → Wrote l 0 (say t p (kept present) (kept wanted)) j m → Wrote m j (0x0D ∷ []) r k
-      → Wrote l 0 (say t p present wanted ++ (0x0D ∷ [])) r k
-  wrote-line j r m k v w = wrote-join (rw (say-kept t p present wanted f g) at v) w
-
-pub ruleset line-writing = (line-first, line-second, wrote-line)
+pub ruleset line-writing = (line-front, line-value, line-end, wrote-line)

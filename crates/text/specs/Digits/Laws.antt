@@ -44,6 +44,9 @@ unfolding digits
 more-digits zero h = absurd (omega arith)
 more-digits (suc n) h = rw (within-more n (suc n) h, same-fuel n (suc n / 10) (suc n / 10) (omega arith) (omega arith))
 
+pub more-length : (n : ℕ) → 10 ≤ n → length (digits n) ≡ length (digits (n / 10)) + 1
+more-length n h = rw (more-digits n h) (length-append (digits (n / 10)) ((48 + n % 10) ∷ []))
+
 -- what holds of one digit, and of one more digit where it held before, holds of a number's digits
 module _ (P : ℕ → List ℕ → Type 0) (one : (n : ℕ) → n < 10 → P n ((48 + n) ∷ []))
     (more : (n : ℕ) → 10 ≤ n → P (n / 10) (digits (n / 10)) → P n (digits (n / 10) ++ ((48 + n % 10) ∷ []))) where

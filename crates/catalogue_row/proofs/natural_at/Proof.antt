@@ -1,0 +1,17 @@
+-- `natural_at`: the same, where it is not negative.
+use borrow.Author.Needs.{needs}
+use Rattle.catalogue_row.specs.Numbers.Reading.{reading}
+use Rattle.catalogue_row.proofs.natural_at.Statement.{statement}
+use Rattle.catalogue_row.proofs.natural_at.Tie as tie
+use Rattle.catalogue_row.proofs.natural_at.Reads as reads
+use Rattle.catalogue_row.proofs.natural_at.Lts as lts
+use Rattle.catalogue_row.proofs.number_at.Reads as number-at-reads
+
+cast-result : tie.Need-cast-result
+cast-result c = (search (reading, needs), search (reading, needs))
+
+returns : tie.Need-returns
+returns c = search (reading, needs)
+
+pub natural-at-spec : {M : Type 1} → statement M
+natural-at-spec = tie.close (tie.spec (λ c κs. search needs) cast-result returns)

@@ -1,0 +1,2 @@
+-- What the numbers of a row of the catalogue say.
+pub mod Numbers

@@ -1,0 +1,2 @@
+-- How level texts are written.
+pub mod Writing
