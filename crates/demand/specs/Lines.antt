@@ -1,5 +1,4 @@
 -- What the restore list rests on: the promise of the line layer over a table, as one record.
-pub mod Owner
 pub mod Price
 pub mod Promise
 pub mod Reach
@@ -48,7 +47,7 @@ pub record Said (t : List ℕ) (p : Parameter) (x : ℤ) (l : List ℕ) : Type 0
   pub fits : length l ≤ lineLimit
   pub answered : (vs : List ℤ) → answer t vs l ≡ record { reply = ack; values = set vs (place p) x }
 
--- each parameter stands at its place, each line has an effect as above, and set lines are said so
+-- each parameter stands at its place, each line has an effect as above, and set lines do as `Said` says
 pub record Lines (t : List ℕ) : Type 0 where
   pub placed : (k : ℕ) (p : Parameter) → parameterAt (parameters t) k ≡ At p → place p ≡ k
   pub effect : (vs : List ℤ) (l : List ℕ) → Effect t vs l

@@ -7,8 +7,10 @@ use lib.IntN.{ℤ, pos}
 use lib.ListN.{getD}
 use lib.Seq.{getD-set-other}
 use Rattle.label.specs.Label.{label, bearer}
+use Rattle.label.specs.Label.Laws.{bearer-alone}
 use Rattle.text.specs.Every.{both-left, both-right}
 use Rattle.parameter.specs.Parameters.{parameters, place, parameterAt}
+use Rattle.parameter.specs.Parameters.Places.{at-place}
 use Rattle.parameter.specs.declared.Parameter.{Parameter}
 use Rattle.parameter.specs.declared.ParameterFound.the-variants.{At}
 use Rattle.label.specs.declared.Bearer.{Bearer}
@@ -17,7 +19,6 @@ use Rattle.answer.specs.Answer.{answer}
 use Rattle.serial_port.specs.Play.Kept.{Keeps}
 use Rattle.demand.specs.Listing.{borneOnce, reachable}
 use Rattle.demand.specs.Lines.{Settable, Effect, nothing, puts, Lines}
-use Rattle.demand.specs.Lines.Owner.{owner-only}
 
 -- the restore list's test says which parameters lines can set
 settable-reachable : (t : List ℕ) (p : Parameter) → Settable t p → reachable t p ≡ true
@@ -35,13 +36,14 @@ module _ (t : List ℕ) (lines : Lines t) where
       go (bearer t (label t (p .owner))) refl (both-right (p .row .settable) (borneOnce (bearer t (label t (p .owner)))) h)
     where
       go : (b : Bearer) → bearer t (label t (p .owner)) ≡ b → borneOnce (bearer t (label t (p .owner))) ≡ true → Settable t p
-      go (Only m) b o =
+      go (Only m) b n =
+          let o = at-place t k p e in
           record {
             listed = rw (lines .placed k p e) e;
             settable = both-left (p .row .settable) (borneOnce (bearer t (label t (p .owner)))) h;
-            only = b ∙ ap Only (owner-only t k p m e b);
+            only = b ∙ ap Only (sym (bearer-alone t (label t (p .owner)) (o .module-number) (p .owner) m (o .among) refl b));
           }
-      go NotOne b o = absurd (true≢false (sym o ∙ ap borneOnce b))
+      go NotOne b n = absurd (true≢false (sym n ∙ ap borneOnce b))
 
   -- a parameter beyond reach stays as it is
   pub keeps-unreachable : (k : ℕ) (p : Parameter) (v : ℤ) → parameterAt (parameters t) k ≡ At p → reachable t p ≡ false

@@ -2,9 +2,8 @@
 use mathlib.Core.Path.{_≡_}
 use mathlib.Core.List.{List, [], _∷_, _++_, append-assoc}
 use Prim.Native.Nat.{ℕ, _+_, _/_, _%_, _≤_}
-use native.Mathlib.Omega.{arith}
 use lib.IntN.{ℤ, natAbs}
-use lib.ListN.{length, length-append}
+use lib.ListN.{length}
 use mir.Syntax.{w64}
 use mir.Val.{SFits}
 use mir.Facts.{toZ-ofZ}
@@ -13,13 +12,12 @@ use Rattle.level.specs.Level.{oneDecimalText}
 use Rattle.level.specs.Level.Sign.{kept}
 use Rattle.text.specs.Switch.{switchText}
 use Rattle.written.specs.Written.{Wrote}
-use Rattle.written.specs.Written.Laws.{wrote-join}
-use Rattle.written.specs.Written.Writing.{room-first}
 use Rattle.row.specs.declared.Kind.{Kind}
 use Rattle.row.specs.declared.Kind.the-variants as kind
 use Rattle.parameter.specs.declared.Parameter.{Parameter}
 use Rattle.reply.specs.Reply.{ack, nak, replyText, getReply}
-use Rattle.name.specs.Name.Writing.{front, same-front, room-middle, room-third}
+use Rattle.name.specs.Name.Line.{out-first, out-second, out-third, wrote-out}
+use Rattle.name.specs.Name.Writing.{front}
 
 -- ---- ACK and NAK
 
@@ -67,25 +65,22 @@ get-parts : (t : List ℕ) (p : Parameter) (v : ℤ) → getReply t p v ≡ fron
 unfolding getReply front
 get-parts t p v = simp append-assoc
 
-module _ (t : List ℕ) (p : Parameter) (v : ℤ) (l : List ℕ) (verb : ℕ) (f : SFits w64 v) (room : length (getReply t p v) ≤ length l) where
-  get-room : 0 + length (front verb t p ++ (replyText (p .row .kind) v ++ (0x0D ∷ []))) ≤ length l
-  get-room =
-      let h = rw (get-parts t p v, length-append (front 0x47 t p)) at room in
-      simp (length-append (front verb t p), same-front verb 0x47 t p) (omega arith)
+module _ (t : List ℕ) (p : Parameter) (v : ℤ) (l : List ℕ) (f : SFits w64 v) where
+  abbrev text : List ℕ
+  text = replyText (p .row .kind) v
 
-  pub get-first : length (front verb t p) ≤ length l
-  get-first =
-      let h = room-first (front verb t p) (replyText (p .row .kind) v ++ (0x0D ∷ [])) 0 (length l) get-room in
-      omega arith
+  pub wrote-get : (j i r : ℕ) (m n k : List ℕ) → Wrote l 0 (front 0x47 t p) j m → Wrote m j (replyText (p .row .kind) (kept v)) i n
+      → Wrote n i (0x0D ∷ []) r k → Wrote l 0 (getReply t p v) r k
+  wrote-get j i r m n k a b c = wrote-out t p text (getReply t p v) l 0x47 (get-parts t p v) j i r m n k a (rw (toZ-ofZ f) at b) c
 
-  pub get-second : (j : ℕ) (m : List ℕ) → Wrote l 0 (front verb t p) j m → j + length (replyText (p .row .kind) (kept v)) ≤ length m
-  get-second j m w = rw (toZ-ofZ f) (room-middle (front verb t p) (replyText (p .row .kind) v) (0x0D ∷ []) l 0 j m get-room w)
+  module _ (verb : ℕ) (room : length (getReply t p v) ≤ length l) where
+    pub get-first : length (front verb t p) ≤ length l
+    get-first = out-first t p text (getReply t p v) l 0x47 (get-parts t p v) verb room
 
-  pub get-third : (j i : ℕ) (m n : List ℕ) → Wrote l 0 (front verb t p) j m → Wrote m j (replyText (p .row .kind) (kept v)) i n → i + 1 ≤ length n
-  get-third j i m n u w = room-third (front verb t p) (replyText (p .row .kind) v) (0x0D ∷ []) l 0 j i m n get-room u (rw (toZ-ofZ f) at w)
+    pub get-second : (j : ℕ) (m : List ℕ) → Wrote l 0 (front verb t p) j m → j + length (replyText (p .row .kind) (kept v)) ≤ length m
+    get-second j m a = rw (toZ-ofZ f) (out-second t p text (getReply t p v) l 0x47 (get-parts t p v) verb room j m a)
 
-pub wrote-get : (t : List ℕ) (p : Parameter) (v : ℤ) (l : List ℕ) (j i r : ℕ) (m n k : List ℕ) → SFits w64 v → Wrote l 0 (front 0x47 t p) j m
-    → Wrote m j (replyText (p .row .kind) (kept v)) i n → Wrote n i (0x0D ∷ []) r k → Wrote l 0 (getReply t p v) r k
-wrote-get t p v l j i r m n k f a b c = rw (get-parts t p v) (wrote-join a (wrote-join (rw (toZ-ofZ f) at b) c))
+    pub get-third : (j i : ℕ) (m n : List ℕ) → Wrote l 0 (front verb t p) j m → Wrote m j (replyText (p .row .kind) (kept v)) i n → i + 1 ≤ length n
+    get-third j i m n a b = out-third t p text (getReply t p v) l 0x47 (get-parts t p v) verb room j i m n a (rw (toZ-ofZ f) at b)
 
 pub ruleset get-writing = (get-first, get-second, get-third, wrote-get)

@@ -16,13 +16,12 @@ use Rattle.level.specs.Level.Told.{tenth-short}
 use Rattle.level.specs.Level.Sign.{kept, kept-size-fits}
 use Rattle.text.specs.Switch.{switchText}
 use Rattle.written.specs.Written.{Wrote}
-use Rattle.written.specs.Written.Laws.{wrote-join}
-use Rattle.written.specs.Written.Writing.{room-first, room-second}
 use Rattle.row.specs.declared.Kind.{Kind}
 use Rattle.row.specs.declared.Kind.the-variants as kind
 use Rattle.parameter.specs.declared.Parameter.{Parameter}
 use Rattle.name.specs.Name.{name}
-use Rattle.name.specs.Name.Writing.{front, from-start, same-front}
+use Rattle.name.specs.Name.Line.{out-first, out-second, out-third, wrote-out}
+use Rattle.name.specs.Name.Writing.{front}
 use Rattle.say.specs.Say.{setText, say}
 
 -- ---- how long a value's text is
@@ -103,30 +102,25 @@ line-parts : (t : List ℕ) (p : Parameter) (present wanted : ℤ)
 unfolding say front
 line-parts t p present wanted = simp append-assoc
 
-module _ (t : List ℕ) (p : Parameter) (present wanted : ℤ) (l : List ℕ) (verb : ℕ) (f : SFits w64 wanted)
-    (room : length (say t p present wanted ++ (0x0D ∷ [])) ≤ length l) where
-  line-room : 0 + length (front verb t p ++ (setText (p .row .kind) wanted ++ (0x0D ∷ []))) ≤ length l
-  line-room =
-      let h = rw (line-parts t p present wanted, length-append (front 0x53 t p)) at room in
-      simp (length-append (front verb t p), same-front verb 0x53 t p) (omega arith)
+module _ (t : List ℕ) (p : Parameter) (present wanted : ℤ) (l : List ℕ) (f : SFits w64 wanted) where
+  abbrev text : List ℕ
+  text = setText (p .row .kind) wanted
 
-  pub line-front : length (front verb t p) ≤ length l
-  line-front =
-      let s = room-first (front verb t p) (setText (p .row .kind) wanted ++ (0x0D ∷ [])) 0 (length l) line-room in
-      omega arith
+  abbrev line : List ℕ
+  line = say t p present wanted ++ (0x0D ∷ [])
 
-  behind-front : (j : ℕ) (m : List ℕ) → Wrote l 0 (front verb t p) j m → j + length (setText (p .row .kind) wanted ++ (0x0D ∷ [])) ≤ length m
-  behind-front j m v = room-second (front verb t p) (setText (p .row .kind) wanted ++ (0x0D ∷ [])) l 0 j m line-room v
+  pub wrote-line : (j i r : ℕ) (m n k : List ℕ) → Wrote l 0 (front 0x53 t p) j m → Wrote m j (setText (p .row .kind) (kept wanted)) i n
+      → Wrote n i (0x0D ∷ []) r k → Wrote l 0 (say t p present wanted ++ (0x0D ∷ [])) r k
+  wrote-line j i r m n k a b c = wrote-out t p text line l 0x53 (line-parts t p present wanted) j i r m n k a (rw (toZ-ofZ f) at b) c
 
-  pub line-value : (j : ℕ) (m : List ℕ) → Wrote l 0 (front verb t p) j m → j + length (setText (p .row .kind) (kept wanted)) ≤ length m
-  line-value j m v = rw (toZ-ofZ f) (room-first (setText (p .row .kind) wanted) (0x0D ∷ []) j (length m) (behind-front j m v))
+  module _ (verb : ℕ) (room : length (say t p present wanted ++ (0x0D ∷ [])) ≤ length l) where
+    pub line-first : length (front verb t p) ≤ length l
+    line-first = out-first t p text line l 0x53 (line-parts t p present wanted) verb room
 
-  pub line-end : (j k : ℕ) (m n : List ℕ) → Wrote l 0 (front verb t p) j m → Wrote m j (setText (p .row .kind) (kept wanted)) k n → k + 1 ≤ length n
-  line-end j k m n v w =
-      room-second (setText (p .row .kind) wanted) (0x0D ∷ []) m j k n (behind-front j m v) (rw (toZ-ofZ f) at w)
+    pub line-second : (j : ℕ) (m : List ℕ) → Wrote l 0 (front verb t p) j m → j + length (setText (p .row .kind) (kept wanted)) ≤ length m
+    line-second j m a = rw (toZ-ofZ f) (out-second t p text line l 0x53 (line-parts t p present wanted) verb room j m a)
 
-pub wrote-line : (t : List ℕ) (p : Parameter) (present wanted : ℤ) (l m n o : List ℕ) (j k r : ℕ) → SFits w64 wanted → Wrote l 0 (front 0x53 t p) j m
-    → Wrote m j (setText (p .row .kind) (kept wanted)) k n → Wrote n k (0x0D ∷ []) r o → Wrote l 0 (say t p present wanted ++ (0x0D ∷ [])) r o
-wrote-line t p present wanted l m n o j k r f u v w = rw (line-parts t p present wanted) (wrote-join u (wrote-join (rw (toZ-ofZ f) at v) w))
+    pub line-third : (j i : ℕ) (m n : List ℕ) → Wrote l 0 (front verb t p) j m → Wrote m j (setText (p .row .kind) (kept wanted)) i n → i + 1 ≤ length n
+    line-third j i m n a b = out-third t p text line l 0x53 (line-parts t p present wanted) verb room j i m n a (rw (toZ-ofZ f) at b)
 
-pub ruleset line-writing = (line-front, line-value, line-end, wrote-line)
+pub ruleset line-writing = (line-first, line-second, line-third, wrote-line)
