@@ -12,22 +12,15 @@ use Rattle.text.specs.Byte.{isByte}
 use Rattle.text.specs.Cut.{has}
 use Rattle.text.specs.Every.{every}
 use Rattle.row.specs.Row.{permitted}
-use Rattle.label.specs.Label.{label, bearer}
 use Rattle.parameter.specs.Parameters.{parameters, place, parameterAt}
 use Rattle.parameter.specs.declared.Parameter.{Parameter}
 use Rattle.parameter.specs.declared.ParameterFound.the-variants.{At}
-use Rattle.label.specs.declared.Bearer.the-variants.{Only}
 use Rattle.shape.specs.Shape.{lineLimit}
 use Rattle.reply.specs.Reply.{ack}
 use Rattle.answer.specs.Answer.{answer}
+use Rattle.answer.specs.Answer.Laws.{Settable}
 use Rattle.say.specs.Say.{say}
 use Rattle.values.specs.Values.{equal}
-
--- a parameter of the table that a line can set: its row may be set, and its module alone bears its label
-pub record Settable (t : List ℕ) (p : Parameter) : Type 0 where
-  pub listed : parameterAt (parameters t) (place p) ≡ At p
-  pub settable : p .row .settable ≡ true
-  pub only : bearer t (label t (p .owner)) ≡ Only (p .owner)
 
 -- what it costs to take the parameter p from v to x: nothing where it is there, else a set line with its 0D
 unfoldable pub price : (table : List ℕ) → Parameter → (target present : ℤ) → ℕ

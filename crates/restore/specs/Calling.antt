@@ -11,7 +11,8 @@ use Rattle.written.specs.Written.{Wrote}
 use Rattle.demand.specs.Listing.{allReachable, changes, listing, restoreNumber, testNumber}
 use Rattle.demand.specs.Listing.Numbers.{number-list}
 use Rattle.demand.specs.Demand.{Admitted, Restores}
-use Rattle.restore.specs.Testing.{test-admits, test-refuses}
+use Rattle.demand.specs.Demand.Laws.{test-admits}
+use Rattle.restore.specs.Testing.{test-refuses}
 use Rattle.demand.specs.Demand.Rules.{returns-listed, returns-refused}
 use Rattle.measure.specs.Measuring.{measured, measuredNumber}
 use Rattle.measure.specs.Measuring.Told.{number-told, within-told}

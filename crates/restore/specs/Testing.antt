@@ -1,9 +1,8 @@
--- Rules for the tests before the list: a failed one gives the call its number, and a wish that passes all is admitted.
+-- Rules for the tests before the list: a failed one gives the call its number.
 use mathlib.Core.Path.{_≡_, refl, sym, _∙_}
 use mathlib.Core.Bool.{Bool, true, false, not}
 use mathlib.Core.List.{List}
 use Prim.Native.Nat.{ℕ, zero, suc}
-use native.Mathlib.Omega.{arith}
 use borrow.Author.Tests.{not-false, not-true}
 use lib.IntN.{ℤ}
 use Rattle.text.specs.Every.{test-held}
@@ -11,23 +10,7 @@ use Rattle.room.specs.Table.{sound}
 use Rattle.values.specs.Values.{valuesSound}
 use Rattle.wish.specs.Target.{Wish, selectionRight, wantedRight}
 use Rattle.demand.specs.Listing.{changes, firstOf, listNumber, restoreNumber, testNumber, wishNumber}
-use Rattle.demand.specs.Demand.{Admitted}
 use Rattle.measure.specs.Measuring.Walk.{wishOf}
-
--- where every test is passed, the wish is admitted
-pub test-admits : (w : Wish) → testNumber w ≡ 0 → Admitted w
-unfolding testNumber wishNumber
-test-admits w h =
-    go (sound (w .table)) (valuesSound (w .table) (w .present)) (selectionRight (w .table) (w .selection))
-    (wantedRight (w .table) (w .selection) (w .wanted)) refl refl refl refl
-  where
-    go : (a b c d : Bool) → sound (w .table) ≡ a → valuesSound (w .table) (w .present) ≡ b → selectionRight (w .table) (w .selection) ≡ c
-        → wantedRight (w .table) (w .selection) (w .wanted) ≡ d → Admitted w
-    go false b c d e f g i = absurd (let z : _≡_ {A = ℕ} 1 0 = rw e at h in omega arith)
-    go true false c d e f g i = absurd (let z : _≡_ {A = ℕ} 2 0 = rw (e, f) at h in omega arith)
-    go true true false d e f g i = absurd (let z : _≡_ {A = ℕ} 5 0 = rw (e, f, g) at h in omega arith)
-    go true true true false e f g i = absurd (let z : _≡_ {A = ℕ} 6 0 = rw (e, f, g, i) at h in omega arith)
-    go true true true true e f g i = record { table = e; present = f; selection = g; wanted = i }
 
 -- a test that fails gives the call its number
 pub test-refuses : (w : Wish) (room : ℕ) → (testNumber w ≡ 0 → ⊥) → restoreNumber w room ≡ testNumber w

@@ -40,20 +40,27 @@ puts-place t vs line p x s h = names-place t (part line (h .quote + 1) (h .close
 pub gets-place : (t line : List ℕ) (p : Parameter) → sound t ≡ true → Gets t line p → parameterAt (parameters t) (place p) ≡ At p
 gets-place t line p s h = names-place t (part line (h .quote + 1) (h .close)) (part line (h .close + 1) (length line)) p s (h .names)
 
--- p can be put to x: it stands at its place, its module alone bears its label, its row may be set, and x is permitted
-pub record Puttable (t : List ℕ) (p : Parameter) (x : ℤ) : Type 0 where
-  pub placed : parameterAt (parameters t) (place p) ≡ At p
-  pub one : bearer t (label t (p .owner)) ≡ Only (p .owner)
+-- a parameter of the table that a line can set: its row may be set, and its module alone bears its label
+pub record Settable (t : List ℕ) (p : Parameter) : Type 0 where
+  pub listed : parameterAt (parameters t) (place p) ≡ At p
   pub settable : p .row .settable ≡ true
+  pub only : bearer t (label t (p .owner)) ≡ Only (p .owner)
+
+-- a line can set p to x
+pub record Puttable (t : List ℕ) (p : Parameter) (x : ℤ) : Type 0 where
+  pub reached : Settable t p
   pub permits : permitted (p .row) x ≡ true
 
 pub put-puttable : (t : List ℕ) (vs : List ℤ) (line : List ℕ) (p : Parameter) (x : ℤ) → sound t ≡ true → meaning t vs line ≡ Put p x → Puttable t p x
 put-puttable t vs line p x s e =
     let h = put-told t vs line p x e in
     record {
-      placed = puts-place t vs line p x s h;
-      one = names-label t (part line (h .quote + 1) (h .close)) (part line (h .close + 1) (h .equal)) p s (h .names);
-      settable = h .valued .settable;
+      reached =
+          record {
+            listed = puts-place t vs line p x s h;
+            settable = h .valued .settable;
+            only = names-label t (part line (h .quote + 1) (h .close)) (part line (h .close + 1) (h .equal)) p s (h .names);
+          };
       permits = h .valued .permits;
     }
 

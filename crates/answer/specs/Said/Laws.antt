@@ -73,7 +73,7 @@ say-said t k p v x s e o w h = rw (say-naming t p v x) (naming-said t p v x (rea
 
 -- whatever some line can put, the set line that is written puts
 pub say-puttable : (t : List ℕ) (p : Parameter) (v x : ℤ) → sound t ≡ true → Puttable t p x → Said t p x (say t p v x)
-say-puttable t p v x s h = say-said t (place p) p v x s (h .placed) (h .one) (h .settable) (h .permits)
+say-puttable t p v x s h = let r = h .reached in say-said t (place p) p v x s (r .listed) (r .only) (r .settable) (h .permits)
 
 -- it is acknowledged, and sets the value at p's place
 pub said-answer : (t : List ℕ) (vs : List ℤ) (p : Parameter) (x : ℤ) (line : List ℕ) → Said t p x line

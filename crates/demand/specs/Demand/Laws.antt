@@ -26,7 +26,7 @@ use Rattle.demand.specs.Lines.{Lines}
 use Rattle.demand.specs.Lines.Promise.{promise}
 use Rattle.demand.specs.Lines.Reach.{Stays, keeps-unreachable}
 use Rattle.demand.specs.Lines.Price.{potential, lowers, price-reached, price-listing}
-use Rattle.demand.specs.Listing.{changes, listing, allReachable, wishNumber, testNumber, listNumber, firstOf, restoreNumber, tell, restore}
+use Rattle.demand.specs.Listing.{changes, listing, allReachable, wishNumber, testNumber, listNumber, tell, restore}
 use Rattle.demand.specs.Listing.Beyond.{beyond}
 use Rattle.demand.specs.Listing.Numbers.{number-list}
 use Rattle.demand.specs.Listing.Counted.{lines-differing}
@@ -135,18 +135,17 @@ demand-three w buffer admitted replyRooms enough = demanded w (promise (w .table
 pub restores : (w : Wish) (buffer : List ℕ) (r : Restored) (buffer′ : List ℕ) → tells r buffer′ ≡ restore w buffer → Restores w buffer r buffer′
 restores w buffer r buffer′ e = record { told = e; demand = rw e (demand-three w buffer) }
 
--- a call that is refused with none of 1, 2, 5 and 6
-pub admitted-late : (w : Wish) (room : ℕ) → (restoreNumber w room ≡ 1 → ⊥) → (restoreNumber w room ≡ 2 → ⊥) → (restoreNumber w room ≡ 5 → ⊥)
-    → (restoreNumber w room ≡ 6 → ⊥) → Admitted w
-unfolding restoreNumber testNumber wishNumber firstOf
-admitted-late w room not-one not-two not-five not-six =
+-- a wish that passes every test before the list is admitted
+pub test-admits : (w : Wish) → testNumber w ≡ 0 → Admitted w
+unfolding testNumber wishNumber
+test-admits w h =
     go (sound (w .table)) (valuesSound (w .table) (w .present)) (selectionRight (w .table) (w .selection))
     (wantedRight (w .table) (w .selection) (w .wanted)) refl refl refl refl
   where
     go : (a b c d : Bool) → sound (w .table) ≡ a → valuesSound (w .table) (w .present) ≡ b → selectionRight (w .table) (w .selection) ≡ c
         → wantedRight (w .table) (w .selection) (w .wanted) ≡ d → Admitted w
-    go false b c d e f g h = absurd (not-one (rw e refl))
-    go true false c d e f g h = absurd (not-two (rw (e, f) refl))
-    go true true false d e f g h = absurd (not-five (rw (e, f, g) refl))
-    go true true true false e f g h = absurd (not-six (rw (e, f, g, h) refl))
-    go true true true true e f g h = record { table = e; present = f; selection = g; wanted = h }
+    go false b c d e f g i = absurd (let z : _≡_ {A = ℕ} 1 0 = rw e at h in omega arith)
+    go true false c d e f g i = absurd (let z : _≡_ {A = ℕ} 2 0 = rw (e, f) at h in omega arith)
+    go true true false d e f g i = absurd (let z : _≡_ {A = ℕ} 5 0 = rw (e, f, g) at h in omega arith)
+    go true true true false e f g i = absurd (let z : _≡_ {A = ℕ} 6 0 = rw (e, f, g, i) at h in omega arith)
+    go true true true true e f g i = record { table = e; present = f; selection = g; wanted = i }

@@ -15,12 +15,12 @@ use Rattle.parameter.specs.declared.Parameter.{Parameter}
 use Rattle.shape.specs.Shape.{lineLimit}
 use Rattle.meaning.specs.Meaning.{meaning}
 use Rattle.answer.specs.Answer.Laws as line
-use Rattle.answer.specs.Answer.Laws.{put-puttable}
+use Rattle.answer.specs.Answer.Laws.{Settable, put-puttable}
 use Rattle.say.specs.Say.{say}
 use Rattle.answer.specs.Said.Laws.{say-naming, say-puttable, said-answer}
 use Rattle.answer.specs.Said.Price.{say-shortest}
 use Rattle.meaning.specs.declared.Meaning.the-variants.{Put}
-use Rattle.demand.specs.Lines.{Settable, price, Effect, nothing, puts, Said, Lines}
+use Rattle.demand.specs.Lines.{price, Effect, nothing, puts, Said, Lines}
 use Rattle.values.specs.Values.{equal}
 use Rattle.values.specs.Values.Laws.{equal-true}
 
@@ -49,19 +49,16 @@ module _ (t : List ℕ) (is-sound : sound t ≡ true) where
   effects : (vs : List ℤ) (l : List ℕ) → Effect t vs l
   effects vs l = go (line.effect t vs l is-sound)
     where
-      settable : (p : Parameter) (x : ℤ) → meaning t vs l ≡ Put p x → Settable t p
-      settable p x m = let h = put-puttable t vs l p x is-sound m in record { listed = h .placed; settable = h .settable; only = h .one }
-
       go : line.Effect t vs l → Effect t vs l
       go (line.refused n m e) = nothing (ap (λ a. a .values) e)
       go (line.told p m g h e) = nothing (ap (λ a. a .values) e)
-      go (line.put p x m g h e) = puts p x (settable p x m) (ap (λ a. a .values) e) (λ target. costs vs l p x target m)
+      go (line.put p x m g h e) = puts p x (put-puttable t vs l p x is-sound m .reached) (ap (λ a. a .values) e) (λ target. costs vs l p x target m)
 
   saying : (p : Parameter) (v x : ℤ) → Settable t p → permitted (p .row) x ≡ true → Said t p x (say t p v x)
   unfolding lineLimit
   saying p v x h r =
       let l = say t p v x in
-      let said = say-puttable t p v x is-sound (record { placed = h .listed; one = h .only; settable = h .settable; permits = r }) in
+      let said = say-puttable t p v x is-sound (record { reached = h; permits = r }) in
       record { bytes = said .bytes; whole = has-not 0x0D l (said .whole); fits = omega (arith, said .short); answered = λ vs. said-answer t vs p x l said }
 
   pub promise : Lines t

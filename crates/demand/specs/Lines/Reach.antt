@@ -16,9 +16,10 @@ use Rattle.parameter.specs.declared.ParameterFound.the-variants.{At}
 use Rattle.label.specs.declared.Bearer.{Bearer}
 use Rattle.label.specs.declared.Bearer.the-variants.{Only, NotOne}
 use Rattle.answer.specs.Answer.{answer}
+use Rattle.answer.specs.Answer.Laws.{Settable}
 use Rattle.serial_port.specs.Play.Kept.{Keeps}
 use Rattle.demand.specs.Listing.{borneOnce, reachable}
-use Rattle.demand.specs.Lines.{Settable, Effect, nothing, puts, Lines}
+use Rattle.demand.specs.Lines.{Effect, nothing, puts, Lines}
 
 -- the restore list's test says which parameters lines can set
 settable-reachable : (t : List ℕ) (p : Parameter) → Settable t p → reachable t p ≡ true

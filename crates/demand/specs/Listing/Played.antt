@@ -17,12 +17,13 @@ use Rattle.parameter.specs.declared.Parameter.{Parameter}
 use Rattle.parameter.specs.declared.ParameterFound.the-variants.{At}
 use Rattle.reply.specs.Reply.{ack}
 use Rattle.answer.specs.Answer.{answer}
+use Rattle.answer.specs.Answer.Laws.{Settable}
 use Rattle.say.specs.Say.{say}
 use Rattle.serial_port.specs.Port.{fresh}
 use Rattle.serial_port.specs.Play.{Played, ended, replyFirst, feed}
 use Rattle.serial_port.specs.Play.Feed.{finished, feed-line, feed-nothing}
 use Rattle.demand.specs.Listing.{Change, changesOf, lineOf, listing, reachable, allReachable}
-use Rattle.demand.specs.Lines.{Settable, Lines}
+use Rattle.demand.specs.Lines.{Lines}
 use Rattle.demand.specs.Lines.Reach.{reachable-settable}
 use Rattle.values.specs.Values.Laws.{equal-true}
 
