@@ -84,13 +84,12 @@ sameValues (x ∷ xs) (y ∷ ys) = equal x y && sameValues xs ys
 unfoldable pub sameAnswer : Answer → Case → Bool
 sameAnswer a c = same (a .reply) (c .reply) && sameValues (a .values) (c .values)
 
--- each line of the list is answered as its case says
-unfoldable pub eachAnswered : List Case → Bool
-eachAnswered [] = true
-eachAnswered (c ∷ cs) = sameAnswer (answer tableA zeros (c .line)) c && eachAnswered cs
+-- a line is answered as its case says
+unfoldable pub answered : Case → Bool
+answered c = sameAnswer (answer tableA zeros (c .line)) c
 
-pub worked : eachAnswered cases ≡ true
-unfolding eachAnswered cases bytes puts told refused tableA oneByteRecord zeros sameAnswer sameValues equal
+pub worked : every answered cases ≡ true
+unfolding answered cases bytes puts told refused tableA oneByteRecord zeros sameAnswer sameValues equal
     indexOf has before after isDigit allDigits every readOn numberOf digitsWithin digits
     signed levelTenth levelPoint levelMore levelWhole readLevel numberForm readNumber switchLetter readSwitch switchText
     minus level switch number catalogue rowsIn rowsOf permitted bodyLength recordLimit modulesFrom modules

@@ -2,17 +2,17 @@
 use mathlib.Core.Path.{_≡_, refl}
 use mathlib.Core.Bool.{Bool, true, _&&_}
 use mathlib.Core.List.{List, [], _∷_, _++_, map}
-use Prim.Native.Nat.{ℕ}
+use Prim.Native.Nat.{ℕ, _-_}
 use Prim.Native.String.{String}
 use lib.Dec.{eqb}
 use lib.IntN.{ℤ, pos, negℤ}
-use lib.ListN.{replicate, take}
+use lib.ListN.{length, replicate}
 use Rattle.text.specs.Cut.{indexOf, before}
 use Rattle.text.specs.Digits.{digitsWithin, digits}
 use Rattle.level.specs.Level.{signText, tenthText, shortTenthText, wholeText, levelText}
 use Rattle.text.specs.Switch.{switchText}
 use Rattle.catalogue.specs.Catalogue.{minus, level, switch, number, catalogue, known, rowsIn, rowsOf}
-use Rattle.text.specs.Every.{both-left, both-right, every}
+use Rattle.text.specs.Every.{every, every-append, every-both}
 use Rattle.row.specs.Row.{permitted}
 use Rattle.room.specs.Table.{bodyLength, bodySound, recordsSound, recordLimit, sound, modulesFrom, modules}
 use Rattle.field.specs.Field.{labelByte, labelRight, isZero, fieldSound}
@@ -21,7 +21,6 @@ use Rattle.parameter.specs.Parameters.{numbered, parametersOf, parametersIn, pa
 use Rattle.values.specs.Values.{eachPermitted, valuesSound, equal}
 use Rattle.name.specs.Name.{indexText, name}
 use Rattle.say.specs.Say.{setText, say}
-use Rattle.answer.specs.Answer.{answer}
 use Rattle.answer.specs.Worked as reading
 use Rattle.answer.specs.Worked.{oneByteRecord, tableA, zeros, bytes}
 use Rattle.wish.specs.Target.{atMostOne, selectionRight, chosen, chosenPermitted, wantedRight, targetOf, target}
@@ -60,7 +59,11 @@ unfoldable pub called : Case → Told
 called c = restore (record { table = tableA; present = zeros; selection = c .selection; wanted = c .wanted }) (replicate (c .room) 0)
 
 unfoldable pub agrees : Told → Case → Bool
-agrees a c = eqb (a .number) (c .number) && eqb (a .bytes) (c .bytes) && eqb (a .lines) (c .lines) && same (take (a .bytes) (a .buffer)) (c .list)
+agrees a c =
+    eqb (a .number) (c .number)
+    && eqb (a .bytes) (c .bytes)
+    && eqb (a .lines) (c .lines)
+    && same (a .buffer) (c .list ++ replicate (c .room - length (c .list)) 0)
 
 -- a worked line, or a worked restore list
 pub data Worked : Type 0 where
@@ -68,20 +71,16 @@ pub data Worked : Type 0 where
   list : Case → Worked
 
 unfoldable pub shown : Worked → Bool
-shown (line c) = reading.sameAnswer (answer tableA zeros (c .line)) c
+shown (line c) = reading.answered c
 shown (list c) = agrees (called c) c
-
-unfoldable pub allShown : List Worked → Bool
-allShown [] = true
-allShown (c ∷ cs) = shown c && allShown cs
 
 unfoldable pub examples : List Worked
 examples = map line reading.cases ++ map list lists
 
 -- ---- the lines are shown where they are read, the lists here
 
-lists-shown : allShown (map list lists) ≡ true
-unfolding allShown shown agrees called lists four wishes ended bytes tableA oneByteRecord zeros
+lists-shown : every shown (map list lists) ≡ true
+unfolding shown agrees called lists four wishes ended bytes tableA oneByteRecord zeros
     indexOf before every digitsWithin digits signText tenthText shortTenthText wholeText levelText switchText
     minus level switch number catalogue known rowsIn rowsOf permitted
     labelByte labelRight isZero fieldSound bodyLength bodySound recordsSound recordLimit sound modulesFrom modules
@@ -90,13 +89,11 @@ unfolding allShown shown agrees called lists four wishes ended bytes tableA oneB
     changesOf changes lineOf listing borneOnce reachable allReachable wishNumber testNumber listNumber firstOf restoreNumber tell restore
 lists-shown = refl
 
-lines-shown : (cs : List reading.Case) (rest : List Worked) → allShown rest ≡ true → reading.eachAnswered cs ≡ true → allShown (map line cs ++ rest) ≡ true
-unfolding allShown shown reading.eachAnswered
-lines-shown [] rest r h = r
-lines-shown (c ∷ cs) rest r h =
-    let a = reading.sameAnswer (answer tableA zeros (c .line)) c in
-    rw (both-left a (reading.eachAnswered cs) h) (lines-shown cs rest r (both-right a (reading.eachAnswered cs) h))
+lines-shown : (cs : List reading.Case) → every reading.answered cs ≡ true → every shown (map line cs) ≡ true
+unfolding every shown
+lines-shown [] h = refl
+lines-shown (c ∷ cs) h = let k = every-both reading.answered c cs h in rw (k .0) (lines-shown cs (k .1))
 
-pub worked : allShown examples ≡ true
+pub worked : every shown examples ≡ true
 unfolding examples
-worked = lines-shown reading.cases (map list lists) lists-shown reading.worked
+worked = every-append shown (map line reading.cases) (map list lists) (lines-shown reading.cases reading.worked) lists-shown

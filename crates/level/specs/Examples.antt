@@ -1,23 +1,13 @@
--- Worked texts, each computed by the definitions themselves.
-use mathlib.Core.Path.{_≡_, refl}
-use mathlib.Core.List.{List, [], _∷_, map}
+-- Worked texts of levels, each computed by the definitions themselves.
+use mathlib.Core.Path.{refl}
+use mathlib.Core.List.{List, [], _∷_}
 use Prim.Native.Nat.{ℕ}
 use lib.IntN.{ℤ, pos, negsuc}
-use Rattle.text.specs.Digits.{isDigit, allDigits, readOn, numberOf, digitsWithin, digits}
-use Rattle.text.specs.Number.{numberForm, readNumber}
+use Rattle.text.specs.Digits.{isDigit, digitsWithin, digits}
+use Rattle.text.specs.Examples.{Gives}
 use Rattle.level.specs.Level.{signed, levelTenth, levelPoint, levelMore, levelWhole, readLevel, signText, tenthText, shortTenthText, wholeText, levelText, oneDecimalText}
-use Rattle.text.specs.Switch.{switchLetter, readSwitch}
 use Rattle.level.specs.declared.Level.{Level}
 use Rattle.level.specs.declared.Level.the-variants as level
-use Rattle.text.specs.declared.number.Number.{Number}
-use Rattle.text.specs.declared.number.Number.the-variants as number
-use Rattle.text.specs.declared.switch.Switch.{Switch}
-use Rattle.text.specs.declared.switch.Switch.the-variants as switch
-use Rattle.text.specs.Every.{every}
-
--- f gives each first part its second
-abbrev Gives : {A B : Type 0} → (A → B) → List (A × B) → Type 0
-Gives {A} {B} f cases = map (λ (c : A × B). f (c .0)) cases ≡ map (λ (c : A × B). c .1) cases
 
 -- levels, and texts that are none
 abbrev levels-read-cases : List (List ℕ × Level)
@@ -72,34 +62,3 @@ decimals-written-cases =
 pub decimals-written : Gives oneDecimalText decimals-written-cases
 unfolding digitsWithin digits signText tenthText wholeText oneDecimalText
 decimals-written = refl
-
--- numbers of one to five digits, and texts that are none
-abbrev numbers-read-cases : List (List ℕ × Number)
-numbers-read-cases =
-    (52 ∷ 51 ∷ 50 ∷ 48 ∷ 48 ∷ [], number.Value 43200) ∷  -- `43200`
-    (48 ∷ 48 ∷ 48 ∷ 48 ∷ 49 ∷ [], number.Value 1) ∷  -- `00001`
-    (48 ∷ [], number.Value 0) ∷  -- `0`
-    (48 ∷ 48 ∷ 48 ∷ 48 ∷ 48 ∷ 49 ∷ [], number.Wrong) ∷  -- `000001`
-    (45 ∷ 48 ∷ [], number.Wrong) ∷  -- `-0`
-    ([], number.Wrong) ∷  -- nothing
-    []
-
-pub numbers-read : Gives (readNumber 5) numbers-read-cases
-unfolding isDigit allDigits every readOn numberOf numberForm readNumber
-numbers-read = refl
-
--- switches, and texts that are none
-abbrev switches-read-cases : List (List ℕ × Switch)
-switches-read-cases =
-    (79 ∷ [], switch.On) ∷  -- `O`
-    (70 ∷ [], switch.Off) ∷  -- `F`
-    (84 ∷ [], switch.Turn) ∷  -- `T`
-    (111 ∷ [], switch.Wrong) ∷  -- `o`
-    (48 ∷ [], switch.Wrong) ∷  -- `0`
-    (79 ∷ 79 ∷ [], switch.Wrong) ∷  -- `OO`
-    ([], switch.Wrong) ∷  -- nothing
-    []
-
-pub switches-read : Gives readSwitch switches-read-cases
-unfolding switchLetter readSwitch
-switches-read = refl

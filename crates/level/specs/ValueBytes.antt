@@ -85,11 +85,6 @@ switch-bytes n = letter-bytes (eqb n 0)
 pub no-other : (b : ℕ) (s : List ℕ) → valueByte b ≡ false → every valueByte s ≡ true → indexOf b s ≡ length s
 no-other b s n h = index-none valueByte b s h n
 
--- the zero byte, the return, the quote, `=` and `>`
-pub others : (valueByte 0 ≡ false) × (valueByte 13 ≡ false) × (valueByte 34 ≡ false) × (valueByte 61 ≡ false) × (valueByte 62 ≡ false)
-unfolding valueByte isDigit
-others = (refl, refl, refl, refl, refl)
-
 -- ---- they are bytes
 
 below-256 : (b : ℕ) → valueByte b ≡ true → isByte b ≡ true

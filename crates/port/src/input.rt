@@ -109,7 +109,7 @@ fn value_list() -> [i64; 2112]
 }
 
 // Serves standard input from the start values on.
-pub fn serve_input(table: &[u8])
+pub(crate) fn serve_input(table: &[u8])
     requires { ⌜ sound (now table) ≡ true ⌝ }
 {
     let rows = all_rows();

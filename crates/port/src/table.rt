@@ -4,7 +4,7 @@ ghost use Prim.Native.Nat.{_≤_};
 ghost use lib.ListN.{length, replicate};
 
 // Room for the longest table and one byte more, by which a longer one is seen.
-pub fn table_buffer() -> [u8; 2113]
+pub(crate) fn table_buffer() -> [u8; 2113]
     ensures { λ r. ⌜ r ≡ replicate 2113 0 ⌝ }
 {
     [0; 2113]
@@ -32,7 +32,7 @@ fn read_to_end(fd: i32, buffer: &mut [u8]) -> usize
 
 // The length of a file that was read into the buffer; all of the buffer where it is missing, can't be read or is longer. The contract only
 // limits it, as above.
-pub fn read_file(path: &[u8], buffer: &mut [u8]) -> usize
+pub(crate) fn read_file(path: &[u8], buffer: &mut [u8]) -> usize
     ensures { λ r. ⌜ r ≤ length (now (buffer .exit)) ⌝ }
 {
     let fd = os::open_read(path);

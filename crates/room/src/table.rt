@@ -41,7 +41,7 @@ pub fn body_length(kind: u8) -> usize
 }
 
 // Whether a body is sound for its kind.
-pub fn body_sound(kind: u8, body: &[u8]) -> bool
+fn body_sound(kind: u8, body: &[u8]) -> bool
     ensures { λ r. ⌜ r ≡ bodySound kind (now (body .entry)) ⌝ }
 {
     if !is_known(kind) {

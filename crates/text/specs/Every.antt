@@ -11,7 +11,7 @@ use lib.ListN.{length, getD}
 pub never {ℓ} : {A : Type ℓ} → false ≡ true → A
 never e = absurd (let z : _≡_ {A = ℕ} 0 1 = cc in omega arith)
 
--- a test that was not failed, as code asks
+-- code asked for a test, and went on where it was not failed
 pub test-held : (b s : Bool) → b ≡ s → not b ≡ false → s ≡ true
 test-held b s e n = sym e ∙ not-false b n
 

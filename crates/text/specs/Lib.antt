@@ -3,5 +3,6 @@ pub mod Byte
 pub mod Cut
 pub mod Digits
 pub mod Every
+pub mod Examples
 pub mod Number
 pub mod Switch

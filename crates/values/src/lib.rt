@@ -58,7 +58,7 @@ pub fn are_sound(table: &[u8], rows: &[[i32; 8]; 50], values: &[i64]) -> bool
 }
 
 // The value that a program starts parameter k with; 0 where there is none.
-pub fn start_at(table: &[u8], rows: &[[i32; 8]; 50], k: usize) -> i64
+fn start_at(table: &[u8], rows: &[[i32; 8]; 50], k: usize) -> i64
     requires { ⌜ (sound (now table) ≡ true) × (now rows ≡ numbers) ⌝ }
     ensures { λ r. ⌜ r ≡ getD (starts (now (table .entry))) k (pos 0) ⌝ }
 {

@@ -102,7 +102,7 @@ fn play(table: &[u8], values: &mut [i64], script: &[u8]) -> Tally {
 }
 
 // Plays a room: the table and the script of the files named. A table that is not sound counts as a wrong first line.
-pub fn play_room(table: &[u8], script: &[u8]) -> Tally {
+pub(crate) fn play_room(table: &[u8], script: &[u8]) -> Tally {
     let mut space = [0u8; 2112];
     let n = read_file(table, &mut space);
     let records = front(&space, n);

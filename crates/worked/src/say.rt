@@ -1,7 +1,7 @@
 // What the program prints.
 use libc::STDOUT_FILENO;
 
-pub fn right(name: &[u8], lines: usize) {
+pub(crate) fn right(name: &[u8], lines: usize) {
     io::write_all(STDOUT_FILENO, b"room ");
     io::write_all(STDOUT_FILENO, name);
     io::write_all(STDOUT_FILENO, b": ");
@@ -9,7 +9,7 @@ pub fn right(name: &[u8], lines: usize) {
     io::write_all(STDOUT_FILENO, b" lines, each answered as it must be\n");
 }
 
-pub fn wrong(name: &[u8], line: usize) {
+pub(crate) fn wrong(name: &[u8], line: usize) {
     io::write_all(STDOUT_FILENO, b"room ");
     io::write_all(STDOUT_FILENO, name);
     io::write_all(STDOUT_FILENO, b": wrong answer to line ");

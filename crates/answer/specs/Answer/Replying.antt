@@ -46,7 +46,7 @@ pub record Tellable (t : List ℕ) (vs : List ℤ) (p : Parameter) : Type 0 wher
   pub room : p .owner .place + 33 ≤ length t
   pub short : length (getReply t p (getD vs (place p) (pos 0))) ≤ 64
 
--- the place in the value list, and the place times a value's size, are numbers of the machine
+-- a parameter's place in the value list is a number of the machine
 pub place-fits : (vs : List ℤ) (a b : ℕ) → a + b < length vs → length vs < 18446744073709551616 → Fits w64 (a + b)
 place-fits vs a b h l = record { fits = omega arith }
 

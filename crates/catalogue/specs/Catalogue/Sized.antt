@@ -44,7 +44,6 @@ type-sized owner = every-type sizedRow owner catalogue catalogue-sized
 
 -- ---- the values that such a row permits
 
--- a level is below 100 dB in size, a switch is off or on, a number has at most five digits and no sign
 pub data Sized : Kind → ℤ → Type 0 where
   level : (x : ℤ) → natAbs x < 1000 → Sized Level x
   off : Sized Switch (pos 0)

@@ -3,9 +3,6 @@ use borrow.Author.Needs.{needs}
 use Rattle.catalogue_row.specs.Numbers.Reading.{reading}
 use Rattle.catalogue_row.proofs.natural_at.Statement.{statement}
 use Rattle.catalogue_row.proofs.natural_at.Tie as tie
-use Rattle.catalogue_row.proofs.natural_at.Reads as reads
-use Rattle.catalogue_row.proofs.natural_at.Lts as lts
-use Rattle.catalogue_row.proofs.number_at.Reads as number-at-reads
 
 cast-result : tie.Need-cast-result
 cast-result c = (search (reading, needs), search (reading, needs))

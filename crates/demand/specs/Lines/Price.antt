@@ -24,7 +24,7 @@ total [] vs = 0
 total (f ∷ fs) [] = 0
 total (f ∷ fs) (v ∷ vs) = f v + total fs vs
 
--- the function of a value that has none
+-- the price where there is none to pay
 unfoldable pub free : ℤ → ℕ
 free v = 0
 
@@ -44,7 +44,7 @@ prices t [] xs = []
 prices t (p ∷ ps) [] = []
 prices t (p ∷ ps) (x ∷ xs) = price t p x ∷ prices t ps xs
 
--- the price of parameter k, free where it has no target
+-- the price of a parameter, which is free where it has no target
 data Priced (t : List ℕ) (p : Parameter) (f : ℤ → ℕ) : Type 0 where
   priced : (x : ℤ) → f ≡ price t p x → Priced t p f
   unpriced : f ≡ free → Priced t p f

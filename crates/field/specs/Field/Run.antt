@@ -161,7 +161,7 @@ module _ (f : List ℕ) (end : ℕ) (e : end ≡ run labelByte f) where
       by-not (fieldSound f)
       (λ q. let h = held f q in let c : false ≡ true = z ∙ rw (sym (ends h)) at (h .zeros) in let k : _≡_ {A = ℕ} 0 1 = cc in omega arith)
 
-  -- the bytes before its end are not zero, so those behind it are all zero where as many are
+  -- no byte before its end is zero, so all behind it are where the zero bytes are as many
   pub field-counted : (zeros : ℕ) → 1 ≤ end → end ≤ 32 → zeros ≡ tally isZero f → eqb zeros (length f - end) ≡ fieldSound f
   field-counted zeros a b z =
       let n : length (drop end f) ≡ length f - end = length-drop end f in

@@ -2,7 +2,6 @@
 use mathlib.Core.Path.{_≡_, refl, sym, ap, subst, _∙_}
 use mathlib.Core.Bool.{Bool, true, false, cond}
 use mathlib.Core.List.{List, [], _∷_}
-use mathlib.Core.Logic.{_⊎_, inl, inr}
 use Prim.Native.Nat.{ℕ, zero, suc, _+_, _≤_}
 use native.Mathlib.Omega.{arith}
 use lib.ListN.{length}
@@ -108,7 +107,7 @@ pub record Found (t text : List ℕ) (m : Module) : Type 0 where
   pub kinds : known (m .kind) ≡ true
   pub room : m .place + 33 ≤ length t
 
--- every module's label is one
+-- every module's label is a right one
 pub module-label : (t : List ℕ) (n : ℕ) (m : Module) → ModuleIn t n m → labelRight (label t m) ≡ true
 unfolding label
 module-label t n m h = record-label t (m .number) (m .place) (m .first) (h .walk) (h .inside)
@@ -131,11 +130,3 @@ bearer-found t text m s e =
 pub bearer-alone : (t text : List ℕ) (n : ℕ) (a m : Module) → moduleAt (modules t) n ≡ At a → label t a ≡ text → bearer t text ≡ Only m → a ≡ m
 unfolding bearer
 bearer-alone t text n a m = only-one t text (modules t) n a m
-
--- a module's own label is borne by it alone, or not by one module alone
-pub bearer-own : (t : List ℕ) (n : ℕ) (m : Module) → moduleAt (modules t) n ≡ At m → (bearer t (label t m) ≡ NotOne) ⊎ (bearer t (label t m) ≡ Only m)
-bearer-own t n m h = go (bearer t (label t m)) refl
-  where
-    go : (b : Bearer) → bearer t (label t m) ≡ b → (bearer t (label t m) ≡ NotOne) ⊎ (bearer t (label t m) ≡ Only m)
-    go NotOne e = inl e
-    go (Only a) e = inr (e ∙ ap Only (sym (bearer-alone t (label t m) n m a h refl e)))

@@ -82,7 +82,7 @@ index-within b (x ∷ s) = either (eqb x b) (index-within b s)
     either true h = omega arith
     either false h = omega arith
 
--- ---- a part has as many bytes as it has
+-- ---- a first part, taken again by its own length
 
 pub as-many : (n : ℕ) (s : List ℕ) → take (length (take n s)) s ≡ take n s
 as-many zero s = refl

@@ -8,7 +8,7 @@ use native.Mathlib.Decide.{decLt}
 use native.Mathlib.Omega.{arith}
 use borrow.Author.Tests.{lt-ltb, le-ltb, le-leb, lt-leb, leb-true}
 use lib.Dec.{leb, ltb}
-use lib.ListN.{length, getD, length-append}
+use lib.ListN.{length, length-append}
 use Rattle.text.specs.Digits.{isDigit, allDigits, digitsWithin, digits}
 use Rattle.text.specs.Every.{both, every, every-append, every-both}
 
@@ -76,12 +76,6 @@ digit-range b h =
 pub digit-and-rest : (b : ℕ) (s : List ℕ) → allDigits (b ∷ s) ≡ true → (isDigit b ≡ true) × (allDigits s ≡ true)
 unfolding allDigits
 digit-and-rest b s h = every-both isDigit b s h
-
--- every byte of digits is from 48 to 57
-pub digit-at : (s : List ℕ) (i : ℕ) → allDigits s ≡ true → i < length s → (48 ≤ getD s i 0) × (getD s i 0 ≤ 57)
-digit-at [] i h l = absurd (omega arith)
-digit-at (b ∷ s) zero h l = digit-range b (digit-and-rest b s h .0)
-digit-at (b ∷ s) (suc i) h l = digit-at s i (digit-and-rest b s h .1) (omega arith)
 
 pub all-digits-append : (s t : List ℕ) → allDigits s ≡ true → allDigits t ≡ true → allDigits (s ++ t) ≡ true
 unfolding allDigits
