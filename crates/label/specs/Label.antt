@@ -1,5 +1,6 @@
 -- Labels: which modules bear a text.
 pub mod Laws
+pub mod Length
 pub mod Match
 pub mod Sought
 use mathlib.Core.Bool.{Bool, true, false, cond, _&&_}

@@ -1,6 +1,6 @@
 -- `write_module`: the parts handed on are the module's own.
 use borrow.Author.Needs.{needs}
-use Rattle.name.specs.Name.Writing.{label-long}
+use Rattle.label.specs.Label.Length.{label-long}
 use Rattle.measure.specs.Measuring.Part.{parting, values-part, wishes-part}
 use Rattle.list.specs.Writing.OneModule.{chosen-room, module-putting}
 use Rattle.list.proofs.write_module.Statement.{statement}

@@ -2,25 +2,18 @@
 use mathlib.Core.Path.{_≡_, sym, _∙_, ap}
 use mathlib.Core.Bool.{true}
 use mathlib.Core.List.{List}
-use Prim.Native.Nat.{ℕ, _+_, _≤_}
-use native.Mathlib.Omega.{arith}
-use lib.ListN.{length, take, drop, length-take}
-use lib.Seq.{take-take}
-use Rattle.text.specs.Cut.{indexOf, before}
-use Rattle.label.specs.Label.{label, bearer}
+use Prim.Native.Nat.{ℕ, _+_}
+use lib.ListN.{length}
+use Rattle.label.specs.Label.{bearer}
 use Rattle.label.specs.Label.Laws.{bearer-found}
+use Rattle.label.specs.Label.Length.{label-part}
 use Rattle.room.specs.Table.{sound}
 use Rattle.label.specs.declared.Bearer.the-variants.{Only}
 use Rattle.room.specs.declared.table.Module.{Module}
-use Rattle.text.specs.Cut.Laws.{as-many}
+use Rattle.shape.specs.Shape.{part}
 
-take-least : (n : ℕ) (s text : List ℕ) → take n s ≡ text → take (length text) s ≡ text
-take-least n s text e = rw (← e) (as-many n s)
-
-pub shown-text : (t text : List ℕ) (m : Module) → sound t ≡ true → bearer t text ≡ Only m → take (length text) (drop (m .place + 1) t) ≡ text
-unfolding label before
+pub shown-text : (t text : List ℕ) (m : Module) → sound t ≡ true → bearer t text ≡ Only m → part t (m .place + 1) (m .place + 1 + length text) ≡ text
+unfolding part
 shown-text t text m s e =
-    let f = take 32 (drop (m .place + 1) t) in
-    let h : take (indexOf 0 f) f ≡ text = bearer-found t text m s e .labelled in
-    let l : length text ≤ 32 = omega (arith, ap length h, length-take (indexOf 0 f) f, length-take 32 (drop (m .place + 1) t)) in
-    sym (take-take (length text) 32 (drop (m .place + 1) t) l) ∙ take-least (indexOf 0 f) f text h
+    let f = bearer-found t text m s e in
+    label-part t m (length text) (ap length (sym (f .labelled))) ∙ f .labelled

@@ -18,7 +18,7 @@ use Rattle.label.specs.declared.Bearer.{Bearer}
 use Rattle.label.specs.declared.Bearer.the-variants.{Only, NotOne}
 use Rattle.room.specs.declared.table.Module.{Module}
 use Rattle.log.specs.Log.{firstQuote, secondQuote, shown, logPart}
-use Rattle.name.specs.Name.Writing.{label-short}
+use Rattle.label.specs.Label.Length.{label-short}
 use Rattle.shape.specs.Shape.{firstFrom, part}
 use Rattle.log.specs.declared.LogPart.{LogPart}
 use Rattle.log.specs.declared.LogPart.the-variants.{Table, Line, Nothing}

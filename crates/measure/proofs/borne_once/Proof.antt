@@ -1,6 +1,6 @@
 -- `borne_once`: the label is a part of the table.
 use borrow.Author.Needs.{needs}
-use Rattle.name.specs.Name.Writing.{label-writing}
+use Rattle.label.specs.Label.Length.{label-place}
 use Rattle.measure.specs.Measuring.Label.{bearing}
 use Rattle.measure.proofs.borne_once.Statement.{statement}
 use Rattle.measure.proofs.borne_once.Tie as tie
@@ -9,13 +9,13 @@ pub borne-once-spec : {M : Type 1} → statement M
 borne-once-spec =
     tie.close
     (tie.spec
-    (λ c. search (bearing, label-writing, needs))  -- add-start
-    (λ c. search (bearing, label-writing, needs))  -- add-end
-    (λ c. search (bearing, label-writing, needs))  -- sub-find-bearer
-    (λ c. search (bearing, label-writing, needs))  -- part-find-bearer-start
-    (λ c. search (bearing, label-writing, needs))  -- part-find-bearer-end
-    (λ c κs. search (bearing, label-writing, needs))  -- find-bearer-requires
-    (λ c. search (bearing, label-writing, needs))  -- enum-told
-    (λ c. search (bearing, label-writing, needs))  -- enum-told-2
-    (λ c. search (bearing, label-writing, needs))  -- returns
-    (λ c. search (bearing, label-writing, needs)))  -- returns-2
+    (λ c. search (bearing, label-place, needs))  -- add-start
+    (λ c. search (bearing, label-place, needs))  -- add-end
+    (λ c. search (bearing, label-place, needs))  -- sub-find-bearer
+    (λ c. search (bearing, label-place, needs))  -- part-find-bearer-start
+    (λ c. search (bearing, label-place, needs))  -- part-find-bearer-end
+    (λ c κs. search (bearing, label-place, needs))  -- find-bearer-requires
+    (λ c. search (bearing, label-place, needs))  -- enum-told
+    (λ c. search (bearing, label-place, needs))  -- enum-told-2
+    (λ c. search (bearing, label-place, needs))  -- returns
+    (λ c. search (bearing, label-place, needs)))  -- returns-2

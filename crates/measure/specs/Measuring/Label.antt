@@ -8,7 +8,7 @@ use Rattle.label.specs.Label.{bearer, label}
 use Rattle.room.specs.declared.table.Module.{Module}
 use Rattle.label.specs.declared.Bearer.{Bearer}
 use Rattle.label.specs.declared.Bearer.the-variants.{Only, NotOne}
-use Rattle.name.specs.Name.Writing.{label-part}
+use Rattle.label.specs.Label.Length.{label-part}
 use Rattle.demand.specs.Listing.{borneOnce}
 
 module _ (t : List ℕ) (m : Module) (n : ℕ) (e : n ≡ length (label t m)) where

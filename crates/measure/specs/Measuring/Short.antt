@@ -19,7 +19,7 @@ use Rattle.label.specs.Label.{label}
 use Rattle.parameter.specs.Parameters.Laws.{parameterOf}
 use Rattle.room.specs.declared.table.Module.{Module}
 use Rattle.name.specs.Name.{name}
-use Rattle.name.specs.Name.Writing.{label-short}
+use Rattle.label.specs.Label.Length.{label-short}
 use Rattle.say.specs.Say.{say, setText}
 use Rattle.say.specs.Say.Writing.{level-text-short, number-text-short, switch-text-is}
 use Rattle.name.specs.Name.Measuring.{indices-short}

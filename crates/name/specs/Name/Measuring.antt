@@ -16,9 +16,10 @@ use Rattle.catalogue.specs.Catalogue.Sized.{sizedIndices}
 use Rattle.row.specs.declared.Indices.{Indices}
 use Rattle.row.specs.declared.Indices.the-variants.{OneGroup, TwoGroups}
 use Rattle.label.specs.Label.{label}
+use Rattle.label.specs.Label.Length.{label-short}
 use Rattle.parameter.specs.declared.Parameter.{Parameter}
 use Rattle.name.specs.Name.{indexText, name}
-use Rattle.name.specs.Name.Writing.{groupText, one-text, two-text, label-short}
+use Rattle.name.specs.Name.Writing.{groupText, one-text, two-text}
 
 -- ---- indices
 

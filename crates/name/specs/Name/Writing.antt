@@ -1,13 +1,9 @@
 -- How a line names a parameter: the parts that are put down one by one, and a rule for each return and each call of their writers.
-use mathlib.Core.Path.{_≡_, refl, sym, _∙_, ap}
+use mathlib.Core.Path.{_≡_, refl, ap}
 use mathlib.Core.List.{List, [], _∷_, _++_, append-assoc}
 use Prim.Native.Nat.{ℕ, _+_, _-_, _≤_}
 use native.Mathlib.Omega.{arith}
-use lib.ListN.{length, take, drop, length-take}
-use lib.Seq.{take-take}
-use mir.Syntax.{w64}
-use mir.Val.{Fits}
-use Rattle.text.specs.Cut.{indexOf, before}
+use lib.ListN.{length, take, drop}
 use Rattle.text.specs.Digits.{digits}
 use Rattle.written.specs.Written.{Wrote}
 use Rattle.written.specs.Written.Laws.{wrote-join}
@@ -15,10 +11,10 @@ use Rattle.written.specs.Written.Writing.{room-first, room-second}
 use Rattle.row.specs.declared.Indices.{Indices}
 use Rattle.row.specs.declared.Indices.the-variants.{OneGroup, TwoGroups}
 use Rattle.label.specs.Label.{label}
+use Rattle.label.specs.Label.Length.{label-part, label-place}
 use Rattle.room.specs.declared.table.Module.{Module}
 use Rattle.parameter.specs.declared.Parameter.{Parameter}
 use Rattle.name.specs.Name.{indexText, name}
-use Rattle.text.specs.Cut.Laws.{as-many}
 
 -- an index after `>`
 unfoldable pub groupText : ℕ → List ℕ
@@ -89,41 +85,15 @@ pub ruleset index-writing = (one-room, wrote-one, two-first, two-second, wrote-t
 
 -- ---- the label
 
--- the length that was counted is the label's
-pub label-long : (t : List ℕ) (m : Module) (n : ℕ) → n ≡ length (before 0 (take 32 (drop (m .place + 1) t))) → n ≡ length (label t m)
-unfolding label
-label-long t m n e = e
-
 module _ (t : List ℕ) (m : Module) (n : ℕ) (e : n ≡ length (label t m)) where
-  pub label-short : n ≤ 32
-  unfolding label before
-  label-short =
-      let f = take 32 (drop (m .place + 1) t) in
-      omega (arith, length-take (indexOf 0 f) f, length-take 32 (drop (m .place + 1) t))
-
-  -- the part of the table that is the label
-  pub label-part : take (m .place + 1 + n - (m .place + 1)) (drop (m .place + 1) t) ≡ label t m
-  unfolding label before
-  label-part =
-      let d = drop (m .place + 1) t in
-      let h = label-short in
-      let z : m .place + 1 + n - (m .place + 1) ≡ n = omega arith in
-      rw z (sym (take-take n 32 d h) ∙ rw e (as-many (indexOf 0 (take 32 d)) (take 32 d)))
-
-  pub label-inside : m .place + 33 ≤ length t → m .place + 1 + n ≤ length t
-  label-inside h = let s = label-short in omega arith
-
-  pub label-end-fits : m .place + 33 ≤ length t → Fits w64 (length t) → Fits w64 (m .place + 1 + n)
-  label-end-fits h f = let s = label-short in record { fits = omega (arith, f .fits) }
-
   pub label-room : (at long : ℕ) → at + length (label t m) ≤ long → at + length (take (m .place + 1 + n - (m .place + 1)) (drop (m .place + 1) t)) ≤ long
-  label-room at long h = rw label-part h
+  label-room at long h = rw (label-part t m n e) h
 
   pub wrote-label : (at r : ℕ) (l k : List ℕ) → Wrote l at (take (m .place + 1 + n - (m .place + 1)) (drop (m .place + 1) t)) r k
       → Wrote l at (label t m) r k
-  wrote-label at r l k w = rw label-part at w
+  wrote-label at r l k w = rw (label-part t m n e) at w
 
-pub ruleset label-writing = (label-inside, label-end-fits, label-room, wrote-label)
+pub ruleset label-writing = (label-place, label-room, wrote-label)
 
 -- ---- the label between quotes
 

@@ -1,6 +1,6 @@
 -- `put_get`: what stands before the value, the value and 0D, one behind the other.
 use borrow.Author.Needs.{needs}
-use Rattle.name.specs.Name.Writing.{label-long}
+use Rattle.label.specs.Label.Length.{label-long}
 use Rattle.reply.specs.Reply.Writing.{get-writing}
 use Rattle.reply.proofs.put_get.Statement.{statement}
 use Rattle.reply.proofs.put_get.Tie as tie
