@@ -1,6 +1,6 @@
 -- What the tests of a label leave, for each of their answers.
-use mathlib.Core.Path.{_≡_, refl}
-use mathlib.Core.Bool.{Bool, true, false, not, _&&_}
+use mathlib.Core.Path.{_≡_, refl, sym}
+use mathlib.Core.Bool.{true, false, not, and-true}
 use mathlib.Core.List.{List}
 use Prim.Native.Nat.{ℕ, _≤_, _<_}
 use native.Mathlib.Omega.{arith}
@@ -20,11 +20,7 @@ pub byte-high : (b : ℕ) → 34 < b → leb b 126 ≡ labelByte b
 unfolding labelByte
 byte-high b l =
     let n : not (eqb b 34) ≡ true = rw (ne-eqb b 34 (λ e. omega arith)) refl in
-    rw (le-leb 32 b (omega arith), n) (and-true (leb b 126))
-  where
-    and-true : (t : Bool) → t ≡ (t && true)
-    and-true true = refl
-    and-true false = refl
+    rw (le-leb 32 b (omega arith), n) (sym (and-true (leb b 126)))
 
 pub byte-quote : (b : ℕ) → 32 ≤ b → b ≤ 34 → not (eqb b 34) ≡ labelByte b
 unfolding labelByte

@@ -1,6 +1,6 @@
 -- Laws of lists of changes: one list after another, and the changes of one module.
 use mathlib.Core.Path.{_≡_, refl, ap, sym, _∙_}
-use mathlib.Core.Bool.{Bool, true, false, cond, _&&_, and-assoc}
+use mathlib.Core.Bool.{Bool, true, false, cond, _&&_, and-assoc, and-false, and-true}
 use mathlib.Core.List.{List, [], _∷_, _++_, append-assoc, append-nil}
 use Prim.Native.Nat.{ℕ, _+_, _≤_}
 use native.Mathlib.Omega.{arith}
@@ -55,11 +55,7 @@ reachable-settable t (c ∷ cs) e = go (c .parameter .row .settable) refl (reach
   where
     go : (b : Bool) → c .parameter .row .settable ≡ b → (allSettable cs ≡ false → allReachable t cs ≡ false)
         → ((c .parameter .row .settable && borneOnce (bearer t (label t (c .parameter .owner)))) && allReachable t cs) ≡ false
-    go true q h = rw (h (rw q at e)) (last (c .parameter .row .settable && borneOnce (bearer t (label t (c .parameter .owner)))))
-      where
-        last : (b : Bool) → (b && false) ≡ false
-        last true = refl
-        last false = refl
+    go true q h = rw (h (rw q at e)) (and-false (c .parameter .row .settable && borneOnce (bearer t (label t (c .parameter .owner)))))
     go false q h = rw q refl
 
 -- ---- the changes of a module that alone bears its label, or does not
@@ -79,10 +75,6 @@ module _ (t : List ℕ) (m : Module) where
       here : Change
       here = record { parameter = record { owner = m; number = n; row = r }; present = v; target = x }
 
-      and-true : (b : Bool) → (b && true) ≡ b
-      and-true true = refl
-      and-true false = refl
-
       go : (b : Bool) → equal v x ≡ b → allReachable t rest ≡ allSettable rest
           → allReachable t (cond (equal v x) rest (here ∷ rest)) ≡ allSettable (cond (equal v x) rest (here ∷ rest))
       go true q h = rw q h
@@ -101,10 +93,6 @@ module _ (t : List ℕ) (m : Module) where
 
       here : Change
       here = record { parameter = record { owner = m; number = n; row = r }; present = v; target = x }
-
-      and-false : (b : Bool) → (b && false) ≡ false
-      and-false true = refl
-      and-false false = refl
 
       go : (b : Bool) → equal v x ≡ b → ((length rest ≡ 0 → ⊥) → allReachable t rest ≡ false)
           → allReachable t (cond (equal v x) rest (here ∷ rest)) ≡ false

@@ -1,6 +1,6 @@
 -- Rules for measuring the changes of a module's rows.
 use mathlib.Core.Path.{_≡_, refl, ap, sym, _∙_}
-use mathlib.Core.Bool.{Bool, true, false, not, _&&_}
+use mathlib.Core.Bool.{Bool, true, false, not, _&&_, and-true}
 use mathlib.Core.List.{List, [], _∷_, _++_}
 use Prim.Native.Nat.{ℕ, _+_, _*_, _≤_, _<_}
 use native.Mathlib.Omega.{arith}
@@ -92,10 +92,6 @@ module _ (t : List ℕ) (m : Module) (vs ws : List ℤ) (bytes lines j : ℕ) (s
     with-here b q =
         settable-append (s .done) (here ∷ [])
         ∙ rw (s .settable, one-settable here, sym (ap (λ (x : Row). x .settable) e), q) (and-true b)
-      where
-        and-true : (b : Bool) → (b && true) ≡ b
-        and-true true = refl
-        and-true false = refl
 
     pub row-read-only : not (r .settable) ≡ true → Settles t (rowChanges m vs ws) Beyond
     unfolding measuredIf

@@ -1,6 +1,6 @@
 -- The check of a table, record by record.
 use mathlib.Core.Path.{_≡_, refl, sym, _∙_}
-use mathlib.Core.Bool.{Bool, true, false, not, _&&_}
+use mathlib.Core.Bool.{Bool, true, false, not, _&&_, and-false}
 use mathlib.Core.List.{List, [], _∷_}
 use Prim.Native.Nat.{ℕ, zero, suc, _+_, _-_, _≤_, _<_}
 use native.Mathlib.Numerals.{add-one}
@@ -11,7 +11,6 @@ use lib.ListN.{length, getD, take, drop, length-take, length-drop, drop-of-lengt
 use lib.Seq.{drop-cons, drop-drop}
 use Rattle.catalogue.specs.Catalogue.{known}
 use Rattle.room.specs.Table.{bodyLength, bodySound, recordLimit, recordsSound, sound, tableNumber}
-use Rattle.field.specs.Field.{fieldSound}
 
 -- the records before a place are sound, and as many may follow as are left
 pub record Checked (t : List ℕ) (place left : ℕ) : Type 0 where
@@ -38,11 +37,7 @@ cut-short : (kind : ℕ) (body : List ℕ) → length body < bodyLength kind →
 unfolding bodySound
 cut-short kind body l =
     let e : eqb (length body) (bodyLength kind) ≡ false = ne-eqb (length body) (bodyLength kind) (λ q. omega arith) in
-    rw e (left-false (known kind))
-  where
-    left-false : (k : Bool) → ((k && false) && fieldSound body) ≡ false
-    left-false true = refl
-    left-false false = refl
+    rw (e, and-false (known kind))
 
 module _ (t : List ℕ) (place left size : ℕ) (h : Checked t place left) (l : place < length t) (some : left ≡ 0 → ⊥)
     (e : size ≡ bodyLength (getD t place 0)) where

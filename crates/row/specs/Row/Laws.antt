@@ -1,6 +1,6 @@
 -- Laws of permitted values, and the rules for the code that tests one.
 use mathlib.Core.Path.{_≡_, refl, sym, _∙_}
-use mathlib.Core.Bool.{Bool, true, false, _&&_}
+use mathlib.Core.Bool.{Bool, true, false, and-false}
 use Prim.Native.Nat.{ℕ, zero, suc, _+_, _-_, _%_, _^_, _<_, _≤_}
 use native.Mathlib.Omega.{arith}
 use borrow.Author.Tests.{le-leb, lt-leb, le-ltb, ltb-false, ltb-true, leb-true}
@@ -64,10 +64,6 @@ bits z = toZ w64 (ofZ w64 z)
 pub value-bits : (z : ℤ) → mag z < 2 ^ 62 → bits z ≡ z
 value-bits z h = toZ-ofZ (record { sfits = omega (arith, h) })
 
-and-false : (a b : Bool) → b ≡ false → (a && b) ≡ false
-and-false true b e = e
-and-false false b e = refl
-
 module _ (r : Row) (v : ℤ) (fit : RowFits r) (sfit : SFits w64 v) where
   pub too-low : ltZ (bits v) (bits (r .low)) ≡ true → false ≡ permitted r v
   unfolding permitted
@@ -75,7 +71,7 @@ module _ (r : Row) (v : ℤ) (fit : RowFits r) (sfit : SFits w64 v) where
 
   pub too-high : ltZ (bits (r .high)) (bits v) ≡ true → false ≡ permitted r v
   unfolding permitted
-  too-high e = rw (lt-le (r .high) v (rw (value-bits (r .high) (fit .high-fits), toZ-ofZ sfit) at e), and-false (leZ (r .low) v) false refl)
+  too-high e = rw (lt-le (r .high) v (rw (value-bits (r .high) (fit .high-fits), toZ-ofZ sfit) at e), and-false (leZ (r .low) v))
 
   module _ (over-low : ltZ (bits v) (bits (r .low)) ≡ false) (under-high : ltZ (bits (r .high)) (bits v) ≡ false) where
     not-low : ltZ v (r .low) ≡ false

@@ -1,6 +1,6 @@
 -- Rules for the code that finds a line's shape.
 use mathlib.Core.Path.{_≡_, refl, sym, _∙_, ap}
-use mathlib.Core.Bool.{Bool, true, false, cond, _&&_}
+use mathlib.Core.Bool.{Bool, true, false, cond, _&&_, and-false}
 use mathlib.Core.List.{List, [], _∷_}
 use Prim.Native.Nat.{ℕ, _+_, _-_, _<_, _≤_}
 use native.Mathlib.Omega.{arith}
@@ -95,11 +95,7 @@ module _ (line : List ℕ) (long : 2 < length line) where
   unfolding isSet isGet
   other-letter n =
       let e = ne-eqb (getD line 1 0) 0x41 n in
-      no-verb (verb-is line 0x53 0x41 long ∙ rw e (no (eqb (getD line 0 0) 0x53))) (verb-is line 0x47 0x41 long ∙ rw e (no (eqb (getD line 0 0) 0x47)))
-    where
-      no : (a : Bool) → (a && false) ≡ false
-      no true = refl
-      no false = refl
+      no-verb (verb-is line 0x53 0x41 long ∙ rw e (and-false (eqb (getD line 0 0) 0x53))) (verb-is line 0x47 0x41 long ∙ rw e (and-false (eqb (getD line 0 0) 0x47)))
 
   pub other-verb : (getD line 0 0 ≡ 0x53 → ⊥) → (getD line 0 0 ≡ 0x47 → ⊥) → Malformed ≡ shape line
   unfolding isSet isGet

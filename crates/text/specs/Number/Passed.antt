@@ -1,6 +1,6 @@
 -- How a number is read: the digits passed so far, and what each way out of the loop says.
 use mathlib.Core.Path.{_≡_, refl, sym, _∙_}
-use mathlib.Core.Bool.{Bool, true, false, _&&_}
+use mathlib.Core.Bool.{Bool, true, false, and-false}
 use mathlib.Core.List.{List, _∷_}
 use Prim.Native.Nat.{ℕ, _+_, _-_, _*_, _^_, _≤_, _<_}
 use native.Mathlib.Numerals.{add-one}
@@ -32,13 +32,9 @@ pub wrong-empty : (width : ℕ) (s : List ℕ) → length s ≡ 0 → Wrong ≡ 
 unfolding readNumber numberForm
 wrong-empty width s h = rw h
 
-never : (a b : Bool) → (a && false) && b ≡ false
-never true b = refl
-never false b = refl
-
 pub wrong-long : (width : ℕ) (s : List ℕ) → (length s ≡ 0 → ⊥) → width < length s → Wrong ≡ readNumber width s
 unfolding readNumber numberForm
-wrong-long width s o h = rw (lt-leb (length s) width h, never (leb 1 (length s)) (allDigits s))
+wrong-long width s o h = rw (lt-leb (length s) width h, and-false (leb 1 (length s)))
 
 pub passed-start : (width : ℕ) (s : List ℕ) → (length s ≡ 0 → ⊥) → length s ≤ width → Passed width s 0 0
 unfolding numberOf

@@ -1,6 +1,6 @@
 -- Rules for testing a value list, module by module.
 use mathlib.Core.Path.{_≡_, refl, ap, sym, _∙_}
-use mathlib.Core.Bool.{Bool, true, false, _&&_, and-assoc}
+use mathlib.Core.Bool.{Bool, true, false, _&&_, and-assoc, and-false}
 use mathlib.Core.List.{List, [], _∷_, _++_}
 use Prim.Native.Nat.{ℕ, _+_, _-_, _≤_, _<_}
 use native.Mathlib.Nat.{le-of-suc-le-suc, not-suc-le-zero}
@@ -64,10 +64,6 @@ module _ (ps qs : List Parameter) (vs : List ℤ) where
 
   fit-wrong : length ps ≤ length vs → eachPermitted ps (take (length ps) vs) ≡ false → fit (ps ++ qs) vs ≡ false
   fit-wrong h e = rw (each-append ps qs vs h, e) (and-false (eqb (length vs) (length (ps ++ qs))))
-    where
-      and-false : (a : Bool) → (a && false) ≡ false
-      and-false true = refl
-      and-false false = refl
 
   fit-next : length ps ≤ length vs → eachPermitted ps (take (length ps) vs) ≡ true → fit (ps ++ qs) vs ≡ fit qs (drop (length ps) vs)
   fit-next h e = rw (each-append ps qs vs h, e, length-append ps qs, length-drop (length ps) vs, eqb-shift (length vs) (length qs) (length ps) h)

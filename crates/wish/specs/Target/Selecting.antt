@@ -1,6 +1,6 @@
 -- Rules for testing the selection, a module's byte after the other.
 use mathlib.Core.Path.{_≡_, refl, ap, sym, _∙_}
-use mathlib.Core.Bool.{Bool, true, false, _&&_}
+use mathlib.Core.Bool.{Bool, true, false, _&&_, and-false}
 use mathlib.Core.List.{List, []}
 use Prim.Native.Nat.{ℕ, _+_, _≤_, _<_}
 use native.Mathlib.Numerals.{add-one}
@@ -35,11 +35,7 @@ wrong-length t selection h = rw (ne-eqb (length selection) (length (modules t)) 
 
 wrong-byte : (t selection : List ℕ) → every atMostOne selection ≡ false → selectionRight t selection ≡ false
 unfolding selectionRight
-wrong-byte t selection h = rw h (go (eqb (length selection) (length (modules t))))
-  where
-    go : (b : Bool) → (b && false) ≡ false
-    go true = refl
-    go false = refl
+wrong-byte t selection h = rw h (and-false (eqb (length selection) (length (modules t))))
 
 module _ (t selection : List ℕ) (number place : ℕ) (s : Selecting t selection number place) (l : place < length t) where
   rows : ℕ

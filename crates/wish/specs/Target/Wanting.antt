@@ -1,6 +1,6 @@
 -- Rules for testing the wanted values, module by module.
 use mathlib.Core.Path.{_≡_, refl, ap, sym, _∙_}
-use mathlib.Core.Bool.{Bool, true, false, not, _&&_, _||_, and-assoc}
+use mathlib.Core.Bool.{Bool, true, false, not, _&&_, _||_, and-assoc, and-false}
 use mathlib.Core.List.{List, [], _∷_, _++_}
 use Prim.Native.Nat.{ℕ, _+_, _-_, _≤_, _<_}
 use native.Mathlib.Nat.{le-of-suc-le-suc, not-suc-le-zero}
@@ -98,11 +98,7 @@ wrong-length t selection ws h = rw (ne-eqb (length ws) (length (parameters t)) h
 
 wrong-entry : (t selection : List ℕ) (ws : List ℤ) → chosenPermitted selection (parameters t) ws ≡ false → wantedRight t selection ws ≡ false
 unfolding wantedRight
-wrong-entry t selection ws h = rw h (go (eqb (length ws) (length (parameters t))))
-  where
-    go : (b : Bool) → (b && false) ≡ false
-    go true = refl
-    go false = refl
+wrong-entry t selection ws h = rw h (and-false (eqb (length ws) (length (parameters t))))
 
 module _ (t selection : List ℕ) (ws : List ℤ) (number place first : ℕ) (s : Wanting t selection ws number place first) (l : place < length t) (rows : ℕ) (n : rows ≡ length (rowsOf (getD t place 0))) where
   here : Module
