@@ -9,7 +9,7 @@ use lib.IntN.{ℤ, pos}
 use lib.ListN.{length, getD, set}
 use mir.Facts.{toZ-ofZ}
 use mir.Syntax.{w64}
-use mir.Val.{Fits, SFits}
+use mir.Val.{SFits}
 use Rattle.written.specs.Written.{Wrote}
 use Rattle.row.specs.Row.Laws.{bits}
 use Rattle.label.specs.Label.Laws.{bearer-found}
@@ -46,10 +46,6 @@ pub record Tellable (t : List ℕ) (vs : List ℤ) (p : Parameter) : Type 0 wher
   pub room : p .owner .place + 33 ≤ length t
   pub short : length (getReply t p (getD vs (place p) (pos 0))) ≤ 64
 
--- a parameter's place in the value list is a number of the machine
-pub place-fits : (vs : List ℤ) (a b : ℕ) → a + b < length vs → length vs < 18446744073709551616 → Fits w64 (a + b)
-place-fits vs a b h l = record { fits = omega arith }
-
 pub tell-room : (t : List ℕ) (vs : List ℤ) (p : Parameter) (buffer : List ℕ) → Tellable t vs p → 64 ≤ length buffer → SFits w64 (getD vs (p .owner .first + p .number) (pos 0))
     → length (getReply t p (bits (getD vs (p .owner .first + p .number) (pos 0)))) ≤ length buffer
 unfolding place
@@ -63,13 +59,13 @@ pub told-value : (t : List ℕ) (vs : List ℤ) (p : Parameter) (buffer : List �
 unfolding place
 told-value t vs p buffer r buffer′ f w = rw (toZ-ofZ f) at w
 
-pub ruleset telling = (place-fits, tell-room, told-value)
+pub ruleset telling = (tell-room, told-value)
 
 pub set-value : (vs : List ℤ) (p : Parameter) (x : ℤ) → SFits w64 x → set vs (p .owner .first + p .number) (bits x) ≡ set vs (place p) x
 unfolding place
 set-value vs p x f = ap (set vs (p .owner .first + p .number)) (toZ-ofZ f)
 
-pub ruleset putting = (place-fits, set-value)
+pub ruleset putting = (set-value)
 
 -- ---- a line, by its meaning
 

@@ -1,7 +1,7 @@
 -- `write_module`: the parts handed on are the module's own.
 use borrow.Author.Needs.{needs}
 use Rattle.label.specs.Label.Length.{label-long}
-use Rattle.measure.specs.Measuring.Part.{parting, values-part, wishes-part}
+use Rattle.measure.specs.Measuring.Part.{parting}
 use Rattle.list.specs.Writing.OneModule.{chosen-room, module-putting}
 use Rattle.list.proofs.write_module.Statement.{statement}
 use Rattle.list.proofs.write_module.Tie as tie
@@ -23,6 +23,6 @@ write-module-spec =
     (λ c. search (module-putting, parting, needs))  -- sub-write-rows-2
     (λ c. search (module-putting, parting, needs))  -- part-write-rows-start-2
     (λ c. search (module-putting, parting, needs))  -- part-write-rows-end-2
-    (λ c κs. ((search needs, search needs, search needs, search (label-long, needs)), ((search (values-part, needs), search (wishes-part, needs)), search (chosen-room, needs))))  -- write-rows-requires
+    (λ c κs. ((search needs, search needs, search needs, search (label-long, needs)), ((search (parting, needs), search (parting, needs)), search (chosen-room, needs))))  -- write-rows-requires
     (λ c. search (module-putting, parting, needs))  -- same-length
     (λ c. search (module-putting, parting, needs)))  -- returns-2

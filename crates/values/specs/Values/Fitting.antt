@@ -8,15 +8,14 @@ use native.Mathlib.Omega.{arith}
 use borrow.Author.Tests.{eq-eqb, eqb-false, eqb-true, ne-eqb, not-false, not-true}
 use lib.Dec.{eqb}
 use lib.IntN.{ℤ}
-use lib.ListN.{length, getD, take, drop, length-append, length-drop, length-take}
+use lib.ListN.{length, getD, take, drop, length-append, length-drop}
 use lib.Seq.{drop-drop}
-use mir.Syntax.{w64}
-use mir.Val.{Fits}
 use Rattle.catalogue.specs.Catalogue.{rowsOf}
 use Rattle.parameter.specs.Parameters.{numbered, parametersOf}
 use Rattle.parameter.specs.Parameters.Laws.{length-parametersOf}
 use Rattle.parameter.specs.Parameters.Walk.{moduleHere, parametersAt, parameters-end, parameters-next, parameters-start}
 use Rattle.row.specs.Row.{permitted}
+use Rattle.text.specs.Part.{part-left}
 use Rattle.room.specs.Table.{bodyLength, sound}
 use Rattle.room.specs.Table.Walk.{Walk, walk-next, walk-start}
 use Rattle.values.specs.Values.{eachPermitted, rowsPermit, valuesSound}
@@ -125,11 +124,4 @@ fitting-all t vs number place first s l = sym (s .rest ∙ rw (parameters-end t 
     ends true e = rw (eq-eqb (length (drop first vs)) 0 (omega (arith, length-drop first vs, eqb-true first (length vs) e)), e)
     ends false e = rw (ne-eqb (length (drop first vs)) 0 (λ f. eqb-false first (length vs) e (omega (arith, length-drop first vs, s .within))), e)
 
-pub part-length : (t : List ℕ) (vs : List ℤ) (number place first rows : ℕ) → Fitting t vs number place first → rows ≤ length vs - first → rows ≡ length (rowsOf (getD t place 0))
-    → length (take (first + rows - first) (drop first vs)) ≡ length (rowsOf (getD t place 0))
-part-length t vs number place first rows s h n = omega (arith, length-take (first + rows - first) (drop first vs), length-drop first vs)
-
-pub end-fits : (t : List ℕ) (vs : List ℤ) (number place first rows : ℕ) → Fitting t vs number place first → rows ≤ length vs - first → length vs < 18446744073709551616 → Fits w64 (first + rows)
-end-fits t vs number place first rows s h b = record { fits = omega (arith, s .within) }
-
-pub ruleset fitting = (fitting-start, fitting-short, fitting-wrong, fitting-next, fitting-all, part-length, end-fits, not-true, not-false)
+pub ruleset fitting = (fitting-start, fitting-short, fitting-wrong, fitting-next, fitting-all, part-left, not-true, not-false)

@@ -8,10 +8,8 @@ use native.Mathlib.Omega.{arith}
 use borrow.Author.Tests.{eq-eqb, eqb-false, eqb-true, ne-eqb, not-false, not-true}
 use lib.Dec.{eqb}
 use lib.IntN.{ℤ}
-use lib.ListN.{length, getD, take, drop, length-drop, length-take}
+use lib.ListN.{length, getD, take, drop, length-drop}
 use lib.Seq.{drop-drop}
-use mir.Syntax.{w64}
-use mir.Val.{Fits}
 use Rattle.catalogue.specs.Catalogue.{rowsOf}
 use Rattle.row.specs.Row.{permitted}
 use Rattle.row.specs.declared.Row.{Row}
@@ -24,6 +22,7 @@ use Rattle.values.specs.Values.{rowsPermit}
 use Rattle.room.specs.declared.table.Module.{Module}
 use Rattle.parameter.specs.declared.Parameter.{Parameter}
 use Rattle.text.specs.Every.{both-left, every}
+use Rattle.text.specs.Part.{part-left}
 use Rattle.wish.specs.Target.{atMostOne, chosen, chosenPermitted, selectionRight, wantedRight}
 
 -- ---- one module: its entries are permitted, or it is not chosen
@@ -171,12 +170,4 @@ wanting-all t selection ws number place first s l = go (eqb first (length ws)) r
         rw (e, eq-eqb (length ws) (length (parameters t)) (omega (arith, many)), each)
     go false e = rw (e, ne-eqb (length ws) (length (parameters t)) (λ f. eqb-false first (length ws) e (omega (arith, many))))
 
-pub part-length : (t selection : List ℕ) (ws : List ℤ) (number place first rows : ℕ) → Wanting t selection ws number place first → rows ≤ length ws - first
-    → rows ≡ length (rowsOf (getD t place 0)) → length (take (first + rows - first) (drop first ws)) ≡ length (rowsOf (getD t place 0))
-part-length t selection ws number place first rows s h n = omega (arith, length-take (first + rows - first) (drop first ws), length-drop first ws)
-
-pub end-fits : (t selection : List ℕ) (ws : List ℤ) (number place first rows : ℕ) → Wanting t selection ws number place first → rows ≤ length ws - first
-    → length ws < 18446744073709551616 → Fits w64 (first + rows)
-end-fits t selection ws number place first rows s h b = record { fits = omega (arith, s .within) }
-
-pub ruleset wanting = (wanting-start, wanting-short, wanting-byte, wanting-wrong, wanting-on, wanting-all, part-length, end-fits, not-true, not-false)
+pub ruleset wanting = (wanting-start, wanting-short, wanting-byte, wanting-wrong, wanting-on, wanting-all, part-left, not-true, not-false)
