@@ -40,18 +40,13 @@ module _ (t : List ℕ) (vs : List ℤ) (selection : List ℕ) (ws : List ℤ) (
   here : List Change
   here = moduleChanges selection (moduleHere t number place first) vs ws
 
-  next : (size rows : ℕ) → size ≡ bodyLength (getD t place 0) → rows ≡ length (rowsOf (getD t place 0))
-      → ChangeWalk (wishOf t vs selection ws) (number + 1) (place + 1 + size) (first + rows) (s .done ++ here)
-  unfolding here
-  next size rows e n = walk-changes (wishOf t vs selection ws) number place first (s .done) (s .passed) l rows n size e
-
   pub puts-standing : Standing t vs selection ws (moduleHere t number place first)
   puts-standing = standing t vs selection ws number place first (s .done) (s .passed) (s .sounds) l
 
   pub puts-room : at + length (listing t (moduleChanges selection (moduleHere t number place first) vs ws)) ≤ length after
   unfolding here
   puts-room =
-      let w = next (bodyLength (getD t place 0)) (length (rowsOf (getD t place 0))) refl refl in
+      let w = walk-changes (wishOf t vs selection ws) number place first (s .done) (s .passed) l (length (rowsOf (getD t place 0))) refl (bodyLength (getD t place 0)) refl in
       let h = first-fits t (changes (wishOf t vs selection ws)) (s .done ++ here) _ 0 (length buffer) (w .split) (omega (arith, s .room)) in
       let k : length (listing t (s .done ++ here)) ≡ length (listing t (s .done)) + length (listing t here) =
       rw (listing-append t (s .done) here) (length-append (listing t (s .done)) (listing t here)) in
@@ -62,7 +57,7 @@ module _ (t : List ℕ) (vs : List ℤ) (selection : List ℕ) (ws : List ℤ) (
       → Puts t vs selection ws buffer new (number + 1) (place + 1 + size) (first + rows) r
   unfolding here
   puts-next r new size rows w e n =
-      let p = next size rows e n in
+      let p = walk-changes (wishOf t vs selection ws) number place first (s .done) (s .passed) l rows n size e in
       record {
         walk = p .counted .walk;
         sounds = s .sounds;

@@ -61,18 +61,13 @@ module _ (t : List ℕ) (vs : List ℤ) (selection : List ℕ) (ws : List ℤ) (
   here : List Change
   here = moduleChanges selection (moduleHere t number place first) vs ws
 
-  next : (size rows : ℕ) → size ≡ bodyLength (getD t place 0) → rows ≡ length (rowsOf (getD t place 0))
-      → ChangeWalk (wishOf t vs selection ws) (number + 1) (place + 1 + size) (first + rows) (s .done ++ here)
-  unfolding here
-  next size rows e n = walk-changes (wishOf t vs selection ws) number place first (s .done) (s .passed) l rows n size e
-
   module _ (f : Measured) (g : Measures t (moduleChanges selection (moduleHere t number place first) vs ws) f) where
     pub sums-beyond : f ≡ Beyond → Beyond ≡ measured t (changes (wishOf t vs selection ws))
     unfolding here
     sums-beyond e =
         let r : allReachable t here ≡ false = beyond-told t here (sym e ∙ g .is) in
-        beyond-first t (changes (wishOf t vs selection ws)) (s .done ++ here) _
-        (next (bodyLength (getD t place 0)) (length (rowsOf (getD t place 0))) refl refl .split) (reachable-append t (s .done) here ∙ rw (s .reach, r) refl)
+        let w = walk-changes (wishOf t vs selection ws) number place first (s .done) (s .passed) l (length (rowsOf (getD t place 0))) refl (bodyLength (getD t place 0)) refl in
+        beyond-first t (changes (wishOf t vs selection ws)) (s .done ++ here) _ (w .split) (reachable-append t (s .done) here ∙ rw (s .reach, r) refl)
 
     module _ (b c : ℕ) (e : f ≡ Within b c) where
       told : (allReachable t here ≡ true) × (b ≡ length (listing t here)) × (c ≡ length here)
@@ -87,8 +82,9 @@ module _ (t : List ℕ) (vs : List ℤ) (selection : List ℕ) (ws : List ℤ) (
 
       pub sums-next : (size rows : ℕ) → size ≡ bodyLength (getD t place 0) → rows ≡ length (rowsOf (getD t place 0))
           → Sums t vs selection ws (number + 1) (place + 1 + size) (first + rows) (bytes + b) (lines + c)
+      unfolding here
       sums-next size rows k n =
-          let p = next size rows k n in
+          let p = walk-changes (wishOf t vs selection ws) number place first (s .done) (s .passed) l rows n size k in
           let u = told in
           record {
             walk = p .counted .walk;
