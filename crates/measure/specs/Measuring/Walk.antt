@@ -13,11 +13,11 @@ use lib.Seq.{drop-drop}
 use Rattle.catalogue.specs.Catalogue.{rowsOf}
 use Rattle.text.specs.Every.{both-left}
 use Rattle.row.specs.declared.Row.{Row}
-use Rattle.room.specs.Table.{bodyLength, sound}
-use Rattle.room.specs.Table.Walk.{modulesAt, modules-next, modules-start, walk-known, walk-room}
+use Rattle.room.specs.Table.{bodyLength, modules, sound}
+use Rattle.room.specs.Table.Walk.{walk-known, walk-numbered, walk-room}
 use Rattle.parameter.specs.Parameters.{numbered, parameters, parametersOf}
 use Rattle.parameter.specs.Parameters.Laws.{length-parametersOf}
-use Rattle.parameter.specs.Parameters.Walk.{Counted, counted-next, counted-start, moduleHere, parametersAt, parameters-end, parameters-next, parameters-start}
+use Rattle.parameter.specs.Parameters.Walk.{Counted, counted-next, counted-start, module-count, moduleHere, parametersAt, parameters-end, parameters-next, parameters-start}
 use Rattle.room.specs.declared.table.Module.{Module}
 use Rattle.parameter.specs.declared.Parameter.{Parameter}
 use Rattle.wish.specs.Target.{Wish, chosen, chosenPermitted, target, targetOf, wantedRight}
@@ -88,7 +88,7 @@ module _ (selection : List ℕ) (m : Module) where
 -- the changes of the records passed are `done`
 pub record ChangeWalk (w : Wish) (number place first : ℕ) (done : List Change) : Type 0 where
   pub counted : Counted (w .table) number place first
-  pub modules-left : length (w .selection) ≡ number + length (modulesAt (w .table) number place first)
+  pub bytes : length (w .selection) ≡ length (modules (w .table))
   pub present-long : length (w .present) ≡ length (parameters (w .table))
   pub wanted-long : length (w .wanted) ≡ length (parameters (w .table))
   pub split : changes w ≡ done ++ wantedChanges (w .selection) (parametersAt (w .table) number place first) (drop first (w .present)) (drop first (w .wanted))
@@ -103,7 +103,7 @@ unfolding changes target
 walk-none w a =
     record {
       counted = counted-start (w .table) (a .table);
-      modules-left = omega (arith, selection-long (w .table) (w .selection) (a .selection), ap length (modules-start (w .table)));
+      bytes = selection-long (w .table) (w .selection) (a .selection);
       present-long = values-many (w .table) (w .present) (a .present);
       wanted-long = wanted-many (w .table) (w .selection) (w .wanted) (a .wanted);
       split = ap (λ ps. wantedChanges (w .selection) ps (w .present) (w .wanted)) (parameters-start (w .table));
@@ -116,17 +116,13 @@ module _ (w : Wish) (number place first : ℕ) (done : List Change) (s : ChangeW
 
   count : length (parametersOf here) ≡ rows
   unfolding here
-  count = length-parametersOf (moduleHere (w .table) number place first) ∙ sym n
+  count = module-count (w .table) number place first rows n
 
   next-counted : (size : ℕ) → size ≡ bodyLength (getD (w .table) place 0) → Counted (w .table) (number + 1) (place + 1 + size) (first + rows)
   next-counted size e = counted-next (w .table) number place first (s .counted) l size rows e n
 
-  more-modules : (size : ℕ) → size ≡ bodyLength (getD (w .table) place 0)
-      → length (w .selection) ≡ number + 1 + length (modulesAt (w .table) (number + 1) (place + 1 + size) (first + rows))
-  more-modules size e = omega (arith, s .modules-left, ap length (modules-next (w .table) number place first (s .counted .walk) l size rows e n))
-
   walk-selected : number < length (w .selection)
-  walk-selected = omega (arith, more-modules (bodyLength (getD (w .table) place 0)) refl)
+  walk-selected = omega (arith, s .bytes, walk-numbered (w .table) number place first (s .counted .walk) l)
 
   walk-present : first + rows ≤ length (w .present)
   walk-present = omega (arith, s .present-long, next-counted (bodyLength (getD (w .table) place 0)) refl .total)
@@ -144,7 +140,7 @@ module _ (w : Wish) (number place first : ℕ) (done : List Change) (s : ChangeW
       let later = parametersAt (w .table) (number + 1) (place + 1 + size) (first + rows) in
       record {
         counted = next-counted size e;
-        modules-left = more-modules size e;
+        bytes = s .bytes;
         present-long = s .present-long;
         wanted-long = s .wanted-long;
         split =

@@ -24,6 +24,10 @@ parametersAt t number place first = parametersIn (modulesAt t number place first
 abbrev pub moduleHere : List ℕ → (number place first : ℕ) → Module
 moduleHere t number place first = record { number = number; place = place; kind = getD t place 0; first = first }
 
+-- it has as many parameters as its type has rows
+pub module-count : (t : List ℕ) (number place first rows : ℕ) → rows ≡ length (rowsOf (getD t place 0)) → length (parametersOf (moduleHere t number place first)) ≡ rows
+module-count t number place first rows n = length-parametersOf (moduleHere t number place first) ∙ sym n
+
 pub parameters-start : (t : List ℕ) → parameters t ≡ parametersAt t 0 0 0
 unfolding parameters parametersAt
 parameters-start t = ap parametersIn (modules-start t)
@@ -56,7 +60,7 @@ counted-next t number place first c l size rows e n =
       walk = walk-next t number place first (c .walk) l size rows e n;
       total =
           omega
-          (arith, c .total, more, length-append (parametersOf m) (parametersAt t (number + 1) (place + 1 + size) (first + rows)), length-parametersOf m);
+          (arith, c .total, more, length-append (parametersOf m) (parametersAt t (number + 1) (place + 1 + size) (first + rows)), module-count t number place first rows n);
     }
 
 pub counted-all : (t : List ℕ) (number place first : ℕ) → Counted t number place first → length t ≤ place → first ≡ length (parameters t)
@@ -81,7 +85,7 @@ module _ (t : List ℕ) (k number place first : ℕ) (s : Passed t k number plac
   passed-next size e h =
       let m = moduleHere t number place first in
       let b = s .before in
-      let d : k - first ≡ length (parametersOf m) + (k - (first + rows)) = omega (arith, length-parametersOf m) in
+      let d : k - first ≡ length (parametersOf m) + (k - (first + rows)) = omega (arith, module-count t number place first rows n) in
       record {
         walk = walk-next t number place first (s .walk) l size rows e n;
         before = omega arith;
@@ -93,7 +97,7 @@ module _ (t : List ℕ) (k number place first : ℕ) (s : Passed t k number plac
   passed-here r h g =
       let m = moduleHere t number place first in
       let inside : k - first < length (rowsOf (getD t place 0)) = omega (arith, n) in
-      let early : k - first < length (parametersOf m) = omega (arith, length-parametersOf m) in
+      let early : k - first < length (parametersOf m) = omega (arith, module-count t number place first rows n) in
       sym
       (s .rest
       ∙ rw (parameters-next t number place first (s .walk) l (bodyLength (getD t place 0)) rows refl n)

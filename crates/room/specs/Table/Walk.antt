@@ -1,5 +1,5 @@
 -- The walk over a table's records: a running position, the record's number, and the number of its first value.
-use mathlib.Core.Path.{_≡_, refl}
+use mathlib.Core.Path.{_≡_, refl, ap}
 use mathlib.Core.Bool.{Bool, true, false, _&&_}
 use mathlib.Core.List.{List, [], _∷_}
 use Prim.Native.Nat.{ℕ, zero, suc, _+_, _-_, _*_, _≤_, _<_}
@@ -28,19 +28,20 @@ pub record Walk (t : List ℕ) (number place first : ℕ) : Type 0 where
   pub few : number ≤ 64
   pub small : first ≤ 33 * number
   pub rest : recordsSound (64 - number) (drop place t) ≡ true
+  pub total : length (modules t) ≡ number + length (modulesAt t number place first)
 
 none : (left number place first : ℕ) → modulesFrom left number place first [] ≡ []
 unfolding modulesFrom
 none zero number place first = refl
 none (suc left) number place first = refl
 
-pub walk-start : (t : List ℕ) → sound t ≡ true → Walk t 0 0 0
-unfolding sound recordLimit
-walk-start t e = record { within = omega arith; few = omega arith; small = omega arith; rest = e }
-
 pub modules-start : (t : List ℕ) → modules t ≡ modulesAt t 0 0 0
 unfolding modules modulesAt recordLimit
 modules-start t = refl
+
+pub walk-start : (t : List ℕ) → sound t ≡ true → Walk t 0 0 0
+unfolding sound recordLimit
+walk-start t e = record { within = omega arith; few = omega arith; small = omega arith; rest = e; total = omega (arith, ap length (modules-start t)) }
 
 -- the first of some records
 record First (left kind : ℕ) (t : List ℕ) : Type 0 where
@@ -90,16 +91,6 @@ module _ (t : List ℕ) (number place first : ℕ) (w : Walk t number place firs
   pub walk-body : (size : ℕ) → size ≡ bodyLength (getD t place 0) → bodySound (getD t place 0) (take size (drop (place + 1) t)) ≡ true
   walk-body size e = rw e (at-record .body)
 
-  pub walk-next : (size rows : ℕ) → size ≡ bodyLength (getD t place 0) → rows ≡ length (rowsOf (getD t place 0))
-      → Walk t (number + 1) (place + 1 + size) (first + rows)
-  walk-next size rows e n =
-      record {
-        within = walk-room size e;
-        few = omega (arith, walk-few);
-        small = omega (arith, rows-few (getD t place 0) walk-known);
-        rest = rw (← e, drop-drop) at (at-record .others);
-      }
-
   pub modules-next : (size rows : ℕ) → size ≡ bodyLength (getD t place 0) → rows ≡ length (rowsOf (getD t place 0))
       → modulesAt t number place first ≡
       record { number = number; place = place; kind = getD t place 0; first = first } ∷
@@ -109,6 +100,20 @@ module _ (t : List ℕ) (number place first : ℕ) (w : Walk t number place firs
       let f = walk-few in
       let m : 64 - number ≡ suc (64 - (number + 1)) = omega arith in
       rw (drop-cons t place 0, m, add-one place, drop-drop, e, n)
+
+  pub walk-numbered : number < length (modules t)
+  walk-numbered = omega (arith, w .total, ap length (modules-next (bodyLength (getD t place 0)) (length (rowsOf (getD t place 0))) refl refl))
+
+  pub walk-next : (size rows : ℕ) → size ≡ bodyLength (getD t place 0) → rows ≡ length (rowsOf (getD t place 0))
+      → Walk t (number + 1) (place + 1 + size) (first + rows)
+  walk-next size rows e n =
+      record {
+        within = walk-room size e;
+        few = omega (arith, walk-few);
+        small = omega (arith, rows-few (getD t place 0) walk-known);
+        rest = rw (← e, drop-drop) at (at-record .others);
+        total = omega (arith, w .total, ap length (modules-next size rows e n));
+      }
 
   -- the next record's place and first value are numbers of the machine
   pub place-fits : (size : ℕ) → size ≡ bodyLength (getD t place 0) → length t < 18446744073709551616 → Fits w64 (place + 1 + size)
@@ -120,6 +125,9 @@ module _ (t : List ℕ) (number place first : ℕ) (w : Walk t number place firs
 pub modules-end : (t : List ℕ) (number place first : ℕ) → length t ≤ place → modulesAt t number place first ≡ []
 unfolding modulesAt
 modules-end t number place first l = rw (drop-of-length-le t l) (none (64 - number) number place first)
+
+pub walk-counted : (t : List ℕ) (number place first : ℕ) → Walk t number place first → length t ≤ place → length (modules t) ≡ number
+walk-counted t number place first w l = omega (arith, w .total, ap length (modules-end t number place first l))
 
 -- what holds at the end, and at a record if at the next one, holds at every record
 module _ (t : List ℕ) (P : (number place first : ℕ) → Type 0)

@@ -12,8 +12,7 @@ use lib.ListN.{length, getD, take, drop, length-append, length-drop}
 use lib.Seq.{drop-drop}
 use Rattle.catalogue.specs.Catalogue.{rowsOf}
 use Rattle.parameter.specs.Parameters.{numbered, parametersOf}
-use Rattle.parameter.specs.Parameters.Laws.{length-parametersOf}
-use Rattle.parameter.specs.Parameters.Walk.{moduleHere, parametersAt, parameters-end, parameters-next, parameters-start}
+use Rattle.parameter.specs.Parameters.Walk.{module-count, moduleHere, parametersAt, parameters-end, parameters-next, parameters-start}
 use Rattle.row.specs.Row.{permitted}
 use Rattle.text.specs.Part.{part-left}
 use Rattle.room.specs.Table.{bodyLength, sound}
@@ -84,7 +83,7 @@ module _ (t : List ℕ) (vs : List ℤ) (number place first : ℕ) (s : Fitting 
 
   count : length (parametersOf here) ≡ rows
   unfolding here
-  count = length-parametersOf (moduleHere t number place first) ∙ sym n
+  count = module-count t number place first rows n
 
   at-module : (size : ℕ) → size ≡ bodyLength (getD t place 0) → valuesSound t vs ≡ fit (parametersOf here ++ parametersAt t (number + 1) (place + 1 + size) (first + rows)) (drop first vs)
   unfolding here

@@ -1,5 +1,5 @@
--- Rules for testing the selection, a module's byte after the other.
-use mathlib.Core.Path.{_≡_, refl, ap, sym, _∙_}
+-- Rules for testing the selection, one module's byte after the other.
+use mathlib.Core.Path.{_≡_, refl, sym, _∙_}
 use mathlib.Core.Bool.{Bool, true, false, _&&_, and-false}
 use mathlib.Core.List.{List, []}
 use Prim.Native.Nat.{ℕ, _+_, _≤_, _<_}
@@ -12,7 +12,7 @@ use lib.Seq.{drop-cons}
 use Rattle.catalogue.specs.Catalogue.{known, rowsOf}
 use Rattle.text.specs.Every.{every}
 use Rattle.room.specs.Table.{bodyLength, modules, sound}
-use Rattle.room.specs.Table.Walk.{Walk, modulesAt, modules-end, modules-next, modules-start, place-fits, walk-few, walk-known, walk-next, walk-start}
+use Rattle.room.specs.Table.Walk.{Walk, place-fits, walk-counted, walk-few, walk-known, walk-next, walk-numbered, walk-start}
 use mir.Syntax.{w64}
 use mir.Val.{Fits}
 use Rattle.wish.specs.Target.{atMostOne, selectionRight}
@@ -21,13 +21,11 @@ use Rattle.wish.specs.Target.{atMostOne, selectionRight}
 pub record Selecting (t selection : List ℕ) (number place : ℕ) : Type 0 where
   pub first : ℕ
   pub walk : Walk t number place first
-  pub total : length (modules t) ≡ number + length (modulesAt t number place first)
   pub within : number ≤ length selection
   pub rest : every atMostOne selection ≡ every atMostOne (drop number selection)
 
 pub selecting-start : (t selection : List ℕ) → sound t ≡ true → Selecting t selection 0 0
-selecting-start t selection e =
-    record { first = 0; walk = walk-start t e; total = omega (arith, ap length (modules-start t)); within = omega arith; rest = refl }
+selecting-start t selection e = record { first = 0; walk = walk-start t e; within = omega arith; rest = refl }
 
 wrong-length : (t selection : List ℕ) → (length selection ≡ length (modules t) → ⊥) → selectionRight t selection ≡ false
 unfolding selectionRight
@@ -38,16 +36,8 @@ unfolding selectionRight
 wrong-byte t selection h = rw h (and-false (eqb (length selection) (length (modules t))))
 
 module _ (t selection : List ℕ) (number place : ℕ) (s : Selecting t selection number place) (l : place < length t) where
-  rows : ℕ
-  rows = length (rowsOf (getD t place 0))
-
-  more : (size : ℕ) → size ≡ bodyLength (getD t place 0)
-      → length (modules t) ≡ number + 1 + length (modulesAt t (number + 1) (place + 1 + size) (s .first + rows))
-  unfolding rows
-  more size e = omega (arith, s .total, ap length (modules-next t number place (s .first) (s .walk) l size rows e refl))
-
   pub selecting-short : length selection ≤ number → false ≡ selectionRight t selection
-  selecting-short h = sym (wrong-length t selection (λ e. omega (arith, more (bodyLength (getD t place 0)) refl)))
+  selecting-short h = sym (wrong-length t selection (λ e. omega (arith, walk-numbered t number place (s .first) (s .walk) l)))
 
   at-byte : number < length selection → every atMostOne selection ≡ (atMostOne (getD selection number 0) && every atMostOne (drop (number + 1) selection))
   unfolding every
@@ -59,12 +49,11 @@ module _ (t selection : List ℕ) (number place : ℕ) (s : Selecting t selectio
 
   pub selecting-next : (size : ℕ) → size ≡ bodyLength (getD t place 0) → number < length selection → getD selection number 0 ≤ 1
       → Selecting t selection (number + 1) (place + 1 + size)
-  unfolding atMostOne rows
+  unfolding atMostOne
   selecting-next size e h b =
       record {
-        first = s .first + rows;
-        walk = walk-next t number place (s .first) (s .walk) l size rows e refl;
-        total = more size e;
+        first = s .first + length (rowsOf (getD t place 0));
+        walk = walk-next t number place (s .first) (s .walk) l size (length (rowsOf (getD t place 0))) e refl;
         within = omega arith;
         rest = rw (le-leb (getD selection number 0) 1 b) at (at-byte h);
       }
@@ -84,7 +73,7 @@ unfolding selectionRight every
 selecting-all t selection number place s l = go (eqb number (length selection)) refl
   where
     many : length (modules t) ≡ number
-    many = omega (arith, s .total, ap length (modules-end t number place (s .first) l))
+    many = walk-counted t number place (s .first) (s .walk) l
 
     go : (b : Bool) → eqb number (length selection) ≡ b → eqb number (length selection) ≡ (eqb (length selection) (length (modules t)) && every atMostOne selection)
     go true e =

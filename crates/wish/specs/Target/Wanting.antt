@@ -14,10 +14,9 @@ use Rattle.catalogue.specs.Catalogue.{rowsOf}
 use Rattle.row.specs.Row.{permitted}
 use Rattle.row.specs.declared.Row.{Row}
 use Rattle.room.specs.Table.{bodyLength, modules, sound}
-use Rattle.room.specs.Table.Walk.{modulesAt, modules-next, modules-start}
+use Rattle.room.specs.Table.Walk.{walk-numbered}
 use Rattle.parameter.specs.Parameters.{numbered, parameters, parametersOf}
-use Rattle.parameter.specs.Parameters.Laws.{length-parametersOf}
-use Rattle.parameter.specs.Parameters.Walk.{Counted, counted-next, counted-start, moduleHere, parametersAt, parameters-end, parameters-next, parameters-start}
+use Rattle.parameter.specs.Parameters.Walk.{Counted, counted-next, counted-start, module-count, moduleHere, parametersAt, parameters-end, parameters-next, parameters-start}
 use Rattle.values.specs.Values.{rowsPermit}
 use Rattle.room.specs.declared.table.Module.{Module}
 use Rattle.parameter.specs.declared.Parameter.{Parameter}
@@ -72,7 +71,6 @@ chosen-append selection (p ∷ ps) qs (w ∷ ws) h =
 
 pub record Wanting (t selection : List ℕ) (ws : List ℤ) (number place first : ℕ) : Type 0 where
   pub counted : Counted t number place first
-  pub modules-left : length (modules t) ≡ number + length (modulesAt t number place first)
   pub bytes : length selection ≡ length (modules t)
   pub within : first ≤ length ws
   pub rest : chosenPermitted selection (parameters t) ws ≡ chosenPermitted selection (parametersAt t number place first) (drop first ws)
@@ -85,7 +83,6 @@ pub wanting-start : (t selection : List ℕ) (ws : List ℤ) → sound t ≡ tru
 wanting-start t selection ws e h =
     record {
       counted = counted-start t e;
-      modules-left = omega (arith, ap length (modules-start t));
       bytes = selection-long t selection h;
       within = omega arith;
       rest = ap (λ (ps : List Parameter). chosenPermitted selection ps ws) (parameters-start t);
@@ -105,18 +102,15 @@ module _ (t selection : List ℕ) (ws : List ℤ) (number place first : ℕ) (s 
 
   count : length (parametersOf here) ≡ rows
   unfolding here
-  count = length-parametersOf (moduleHere t number place first) ∙ sym n
+  count = module-count t number place first rows n
 
   pub wanting-short : length ws - first < rows → false ≡ wantedRight t selection ws
   wanting-short h =
       let c = counted-next t number place first (s .counted) l (bodyLength (getD t place 0)) rows refl n in
       sym (wrong-length t selection ws (λ e. omega (arith, c .total, s .within)))
 
-  more-modules : (size : ℕ) → size ≡ bodyLength (getD t place 0) → length (modules t) ≡ number + 1 + length (modulesAt t (number + 1) (place + 1 + size) (first + rows))
-  more-modules size e = omega (arith, s .modules-left, ap length (modules-next t number place first (s .counted .walk) l size rows e n))
-
   pub wanting-byte : number < length selection
-  wanting-byte = omega (arith, s .bytes, more-modules (bodyLength (getD t place 0)) refl)
+  wanting-byte = omega (arith, s .bytes, walk-numbered t number place first (s .counted .walk) l)
 
   module _ (room : rows ≤ length ws - first) (b : Bool)
       (f : b ≡ (not (eqb (getD selection number 0) 1) || rowsPermit (rowsOf (getD t place 0)) (take (first + rows - first) (drop first ws)))) where
@@ -139,7 +133,6 @@ module _ (t selection : List ℕ) (ws : List ℤ) (number place first : ℕ) (s 
     wanting-next size e h =
         record {
           counted = counted-next t number place first (s .counted) l size rows e n;
-          modules-left = more-modules size e;
           bytes = s .bytes;
           within = omega (arith, s .within);
           rest = rw h at (at-module size e);
