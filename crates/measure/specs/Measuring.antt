@@ -62,15 +62,17 @@ unfoldable pub measuredNumber : Measured → (room : ℕ) → ℕ
 measuredNumber Beyond room = 7
 measuredNumber (Within bytes lines) room = cond (leb bytes room) 0 8
 
--- what measuring a module answers; its bytes and lines are few
+-- the bytes and lines of a module are few
 pub record Few (r : Measured) : Type 0 where
   pub bytes : (b l : ℕ) → r ≡ Within b l → b ≤ 4224
   pub lines : (b l : ℕ) → r ≡ Within b l → l ≤ 33
 
+-- what measuring a module's rows answers
 pub record Settles (t : List ℕ) (cs : List Change) (r : Measured) : Type 0 where
   pub is : r ≡ measuredIf (allSettable cs) t cs
   pub few : Few r
 
+-- what measuring a module answers
 pub record Measures (t : List ℕ) (cs : List Change) (r : Measured) : Type 0 where
   pub is : r ≡ measured t cs
   pub few : Few r

@@ -25,7 +25,7 @@ pub enum Measured {
     Beyond,
 }
 
-// The changes of a module's rows: beyond reach where a row is read-only.
+// The changes of a module's rows: beyond reach where a row that changes is read-only.
 fn row_lines(
     table: &[u8],
     rows: &[[i32; 8]; 50],
@@ -104,7 +104,7 @@ fn module_lines(
     )
 }
 
-// The changes of a module: beyond reach too where there is one and the module does not alone bear its label.
+// The changes of a module: beyond reach too where a row changes and the module does not alone bear its label.
 fn measure_module(
     table: &[u8],
     rows: &[[i32; 8]; 50],

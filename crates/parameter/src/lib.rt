@@ -53,6 +53,7 @@ pub fn parameter_count(table: &[u8]) -> usize
     requires { ⌜ sound (now table) ≡ true ⌝ }
     ensures { λ r. ⌜ r ≡ length (parameters (now (table .entry))) ⌝ }
 {
+    // Only the proof needs the number of the records passed.
     let mut records: usize = 0;
     let mut at = 0;
     let mut passed = 0;

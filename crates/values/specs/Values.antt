@@ -35,7 +35,7 @@ equal (pos m) (negsuc n) = false
 equal (negsuc m) (pos n) = false
 equal (negsuc m) (negsuc n) = eqb m n
 
--- as many values as parameters, each permitted for its row, read-only rows included
+-- as many values as parameters, and each is one that its row permits, whether or not a line may set it
 unfoldable pub valuesSound : List ℕ → List ℤ → Bool
 valuesSound t vs = eqb (length vs) (length (parameters t)) && eachPermitted (parameters t) vs
 

@@ -37,6 +37,7 @@ pub fn are_sound(table: &[u8], rows: &[[i32; 8]; 50], values: &[i64]) -> bool
     requires { ⌜ (sound (now table) ≡ true) × (now rows ≡ numbers) ⌝ }
     ensures { λ r. ⌜ r ≡ valuesSound (now (table .entry)) (now (values .entry)) ⌝ }
 {
+    // Only the proof needs the number of the records passed.
     let mut number: usize = 0;
     let mut place = 0;
     let mut first = 0;

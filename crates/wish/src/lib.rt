@@ -43,7 +43,7 @@ fn module_right(rows: &[[i32; 8]; 50], selected: u8, kind: u8, wanted: &[i64]) -
     module_fits(rows, kind, wanted)
 }
 
-// Whether the wanted list is as long as the parameters are many, and each chosen module's entry is permitted.
+// Whether the wanted list has one entry for each parameter, and each chosen module's entry is permitted.
 pub fn wanted_right(table: &[u8], rows: &[[i32; 8]; 50], selection: &[u8], wanted: &[i64]) -> bool
     requires { ⌜ (sound (now table) ≡ true) × (now rows ≡ numbers) × (selectionRight (now table) (now selection) ≡ true) ⌝ }
     ensures { λ r. ⌜ r ≡ wantedRight (now (table .entry)) (now (selection .entry)) (now (wanted .entry)) ⌝ }
