@@ -1,4 +1,5 @@
 -- The value list: one value for each parameter, in the parameters' order.
+pub mod Each
 pub mod Fitting
 pub mod Laws
 pub mod Right
