@@ -1,6 +1,6 @@
 -- When a text is the label in a field, by its bytes.
 use mathlib.Core.Path.{_≡_, refl, sym, ap, _∙_}
-use mathlib.Core.Bool.{Bool, true, false, cond}
+use mathlib.Core.Bool.{Bool, true, false}
 use mathlib.Core.List.{List, [], _∷_}
 use Prim.Native.Nat.{ℕ, zero, suc, _+_, _-_, _≤_, _<_}
 use native.Mathlib.Omega.{arith}
@@ -13,7 +13,7 @@ use Rattle.text.specs.Every.{both-left, both-right, every}
 use Rattle.field.specs.Field.{labelByte, labelRight}
 use Rattle.label.specs.Label.{same}
 use Rattle.field.specs.Field.Bytes.{label-byte, label-right}
-use Rattle.text.specs.Cut.Laws.{index-within}
+use Rattle.text.specs.Cut.Laws.{index-within, index-found}
 
 -- ---- the comparison byte for byte
 
@@ -40,15 +40,6 @@ same-not a b n = go (same a b) refl
     go false e = refl
 
 -- ---- the first zero byte
-
-pub index-zero : (s : List ℕ) → getD s (indexOf 0 s) 0 ≡ 0
-unfolding indexOf
-index-zero [] = refl
-index-zero (b ∷ s) = either (eqb b 0) refl (index-zero s)
-  where
-    either : (r : Bool) → eqb b 0 ≡ r → getD s (indexOf 0 s) 0 ≡ 0 → getD (b ∷ s) (cond r 0 (suc (indexOf 0 s))) 0 ≡ 0
-    either true e h = eqb-true b 0 e
-    either false e h = h
 
 index-at : (n : ℕ) (s : List ℕ) → n ≤ length s → every labelByte (take n s) ≡ true → getD s n 0 ≡ 0 → indexOf 0 s ≡ n
 unfolding indexOf every
@@ -108,7 +99,7 @@ longer t text label room s n e =
     let c : length (take (indexOf 0 f) f) ≡ length text = ap length e in
     let d : length f ≡ 32 = field-length t label room in
     let k : indexOf 0 f ≡ length text = omega (arith, length-take (indexOf 0 f) f) in
-    n (sym (field-at t label (length text) s) ∙ rw k at (index-zero f))
+    n (sym (field-at t label (length text) s) ∙ rw k at (index-found 0 f))
 
 pub matches : (t text : List ℕ) (label i : ℕ) → Compared t text label i → i ≤ 0 → labelRight text ≡ true
     → (length text < 32 → getD t (label + length text) 0 ≡ 0) → before 0 (take 32 (drop label t)) ≡ text

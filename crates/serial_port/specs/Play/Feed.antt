@@ -7,8 +7,9 @@ use native.Mathlib.Omega.{arith}
 use borrow.Author.Tests.{lt-ltb}
 use lib.Dec.{eqb, leb·suc-suc}
 use lib.IntN.{ℤ}
-use lib.ListN.{length}
+use lib.ListN.{length, take}
 use Rattle.text.specs.Cut.{has, indexOf, before, after}
+use Rattle.text.specs.Cut.Lacking.{has-not, before-lacks, parts-joined, through-first}
 use Rattle.shape.specs.Shape.{lineLimit}
 use Rattle.reply.specs.Reply.{nak}
 use Rattle.answer.specs.Answer.{Answer}
@@ -17,35 +18,15 @@ use Rattle.serial_port.specs.Port.Laws.{fresh-few, join-nothing, join-jo
 use Rattle.serial_port.specs.Call.{Answering, finish}
 use Rattle.serial_port.specs.Play.{Played, ended, replyFirst, feed}
 
--- ---- the first 0D of a sequence, by its first byte
+-- ---- whether a sequence has an 0D, by its first byte
 
-pub has-nothing : has 0x0D [] ≡ false
-unfolding has indexOf
-has-nothing = refl
-
-pub has-cons : (b : ℕ) (bs : List ℕ) → eqb b 0x0D ≡ false → has 0x0D (b ∷ bs) ≡ has 0x0D bs
+has-cons : (b : ℕ) (bs : List ℕ) → eqb b 0x0D ≡ false → has 0x0D (b ∷ bs) ≡ has 0x0D bs
 unfolding has indexOf
 has-cons b bs h = rw h (leb·suc-suc (suc (indexOf 0x0D bs)) (length bs))
-
-pub before-cons : (b : ℕ) (bs : List ℕ) → eqb b 0x0D ≡ false → before 0x0D (b ∷ bs) ≡ b ∷ before 0x0D bs
-unfolding before indexOf
-before-cons b bs h = rw h refl
-
-after-cons : (b : ℕ) (bs : List ℕ) → eqb b 0x0D ≡ false → after 0x0D (b ∷ bs) ≡ after 0x0D bs
-unfolding after indexOf
-after-cons b bs h = rw h refl
 
 has-end : (b : ℕ) (bs : List ℕ) → eqb b 0x0D ≡ true → has 0x0D (b ∷ bs) ≡ true
 unfolding has indexOf
 has-end b bs h = rw h (lt-ltb 0 (suc (length bs)) (omega arith))
-
-pub before-end : (b : ℕ) (bs : List ℕ) → eqb b 0x0D ≡ true → before 0x0D (b ∷ bs) ≡ []
-unfolding before indexOf
-before-end b bs h = rw h refl
-
-after-end : (b : ℕ) (bs : List ℕ) → eqb b 0x0D ≡ true → after 0x0D (b ∷ bs) ≡ bs
-unfolding after indexOf
-after-end b bs h = rw h refl
 
 -- a finished line: its reply, and the rest from a fresh port
 unfoldable pub finished : Answering → Answer → List ℕ → Played
@@ -84,23 +65,6 @@ module _ (answer : Answering) where
       go true e ih = absurd (true≢false (sym (has-end b bs e) ∙ h))
       go false e ih = feed-byte v vs b bs e ∙ ih (sym (has-cons b bs e) ∙ h) ∙ ap (λ w. ended w vs) (join-join v (b ∷ []) bs)
 
-  -- up to the first 0D, the bytes are joined to the held line, which is then answered
-  pub feed-finishes : (v : View) (vs : List ℤ) (bs : List ℕ) → claim v ≤ lineLimit → has 0x0D bs ≡ true
-      → feed answer v vs bs ≡ finished answer (finish answer vs (join v (before 0x0D bs))) (after 0x0D bs)
-  feed-finishes v vs [] k h = absurd (true≢false (sym h ∙ has-nothing))
-  feed-finishes v vs (b ∷ bs) k h = go (eqb b 0x0D) refl (λ h. feed-finishes (join v (b ∷ [])) vs bs (claim-join v (b ∷ [])) h)
-    where
-      w : View
-      w = join v (b ∷ [])
-
-      go : (t : Bool) → eqb b 0x0D ≡ t
-          → (has 0x0D bs ≡ true → feed answer w vs bs ≡ finished answer (finish answer vs (join w (before 0x0D bs))) (after 0x0D bs))
-          → feed answer v vs (b ∷ bs) ≡ finished answer (finish answer vs (join v (before 0x0D (b ∷ bs)))) (after 0x0D (b ∷ bs))
-      go true e ih = rw (before-end b bs e, after-end b bs e, join-nothing v k) (feed-end v vs b bs e)
-      go false e ih =
-          rw (before-cons b bs e, after-cons b bs e, ← (join-join v (b ∷ []) (before 0x0D bs)))
-          (feed-byte v vs b bs e ∙ ih (sym (has-cons b bs e) ∙ h))
-
   -- cut anywhere: what follows is fed to the port and the values that the first part leaves
   abbrev Cut : View → List ℤ → List ℕ → List ℕ → Type 0
   Cut v vs a b = feed answer v vs (a ++ b) ≡ followed (feed answer v vs a) (feed answer (feed answer v vs a .port) (feed answer v vs a .values) b)
@@ -126,22 +90,32 @@ module _ (answer : Answering) where
       go true e a c = rw (feed-end v vs b bs e) a
       go false e a c = rw (feed-byte v vs b bs e) c
 
-  -- lines one after the other: what a line was collected to is answered, and the rest is fed to a fresh port
-  feed-collected : (vs : List ℤ) (l rest : List ℕ) → has 0x0D l ≡ false
-      → feed answer fresh vs (l ++ 0x0D ∷ rest) ≡ finished answer (finish answer vs (join fresh l)) rest
+  -- bytes without 0D, and an 0D: the bytes are joined to the held line, which is answered, and the rest is fed to a fresh port
+  pub feed-collected : (v : View) (vs : List ℤ) (l rest : List ℕ) → claim v ≤ lineLimit → has 0x0D l ≡ false
+      → feed answer v vs (l ++ 0x0D ∷ rest) ≡ finished answer (finish answer vs (join v l)) rest
   unfolding followed ended finished replyFirst
-  feed-collected vs l rest h =
-      feed-append fresh vs l (0x0D ∷ rest)
-      ∙ rw (feed-waits fresh vs l fresh-few h) (feed-end (join fresh l) vs 0x0D rest refl)
+  feed-collected v vs l rest k h =
+      feed-append v vs l (0x0D ∷ rest) ∙ rw (feed-waits v vs l k h) (feed-end (join v l) vs 0x0D rest refl)
+
+  -- so a sequence that has an 0D is cut at the first, and the part through that 0D is a line by itself
+  module _ (v : View) (vs : List ℤ) (bs : List ℕ) (k : claim v ≤ lineLimit) (h : has 0x0D bs ≡ true) where
+    first-line : (rest : List ℕ) → feed answer v vs (before 0x0D bs ++ 0x0D ∷ rest) ≡ finished answer (finish answer vs (join v (before 0x0D bs))) rest
+    first-line rest = feed-collected v vs (before 0x0D bs) rest k (has-not 0x0D (before 0x0D bs) (before-lacks 0x0D bs))
+
+    pub feed-finishes : feed answer v vs bs ≡ finished answer (finish answer vs (join v (before 0x0D bs))) (after 0x0D bs)
+    feed-finishes = ap (feed answer v vs) (parts-joined 0x0D bs h) ∙ first-line (after 0x0D bs)
+
+    pub feed-first : feed answer v vs (take (suc (indexOf 0x0D bs)) bs) ≡ finished answer (finish answer vs (join v (before 0x0D bs))) []
+    feed-first = rw (through-first 0x0D bs h) (first-line [])
 
   -- a line of at most 64 bytes: its reply, and the rest from the values after it
   pub feed-line : (vs : List ℤ) (l rest : List ℕ) → length l ≤ lineLimit → has 0x0D l ≡ false
       → feed answer fresh vs (l ++ 0x0D ∷ rest) ≡ finished answer (answer vs l) rest
   unfolding finish
-  feed-line vs l rest k h = feed-collected vs l rest h ∙ rw (join-fresh l k) refl
+  feed-line vs l rest k h = feed-collected fresh vs l rest fresh-few h ∙ rw (join-fresh l k) refl
 
   -- a longer line: one 99, and a fresh port for what follows
   pub feed-overrun : (vs : List ℤ) (l rest : List ℕ) → lineLimit < length l → has 0x0D l ≡ false
       → feed answer fresh vs (l ++ 0x0D ∷ rest) ≡ replyFirst (nak 99) (feed answer fresh vs rest)
   unfolding finish finished
-  feed-overrun vs l rest k h = feed-collected vs l rest h ∙ rw (join-overruns l k) refl
+  feed-overrun vs l rest k h = feed-collected fresh vs l rest fresh-few h ∙ rw (join-overruns l k) refl

@@ -1,12 +1,11 @@
 -- One call of a stream: what it consumes, fed byte by byte, does what the call does.
 use mathlib.Core.Path.{_≡_, refl, sym, _∙_, ap}
-use mathlib.Core.Bool.{Bool, true, false, true≢false}
+use mathlib.Core.Bool.{Bool, true, false}
 use mathlib.Core.List.{List, [], _∷_, _++_, append-nil, append-assoc}
-use Prim.Native.Nat.{ℕ, suc, _≤_}
+use Prim.Native.Nat.{ℕ, _≤_}
 use native.Mathlib.Nat.{zero-add}
 use native.Mathlib.Omega.{arith}
 use borrow.Author.Tests.{ltb-true}
-use lib.Dec.{eqb}
 use lib.IntN.{ℤ}
 use lib.ListN.{length, take}
 use lib.Seq.{take-length}
@@ -17,11 +16,10 @@ use Rattle.values.specs.Values.{valuesSound}
 use Rattle.shape.specs.Shape.{lineLimit}
 use Rattle.answer.specs.Answer.{answer}
 use Rattle.serial_port.specs.Port.{View, view, claim, join}
-use Rattle.serial_port.specs.Port.Laws.{join-nothing, join-join, claim-join}
 use Rattle.serial_port.specs.Call.{Answering, Step, step, finish, replied, waiting, replyLimit, tell, call, tells, Handed, Answers}
 use Rattle.serial_port.specs.Call.Laws.{accepted, step-finishes, step-waits, reply-fits}
 use Rattle.serial_port.specs.Play.{Played, ended, replyFirst, feed}
-use Rattle.serial_port.specs.Play.Feed.{finished, has-nothing, has-cons, before-cons, before-end, feed-nothing, feed-end, feed-byte, feed-waits}
+use Rattle.serial_port.specs.Play.Feed.{finished, feed-nothing, feed-waits, feed-first}
 use Rattle.stream.specs.Stream.{joined}
 use Rattle.serial_port.specs.declared.port.Port.{Port}
 use Rattle.serial_port.specs.declared.port.Called.{Called}
@@ -37,32 +35,7 @@ pub record Once (p : Played) (s : Step) : Type 0 where
   pub values : p .values ≡ s .values
   pub port : p .port ≡ s .port
 
-index-end : (b : ℕ) (bs : List ℕ) → eqb b 0x0D ≡ true → indexOf 0x0D (b ∷ bs) ≡ 0
-unfolding indexOf
-index-end b bs e = rw e refl
-
-index-cons : (b : ℕ) (bs : List ℕ) → eqb b 0x0D ≡ false → indexOf 0x0D (b ∷ bs) ≡ suc (indexOf 0x0D bs)
-unfolding indexOf
-index-cons b bs e = rw e refl
-
 module _ (answer : Answering) where
-  -- the first line, and nothing behind its 0D
-  first-line : (v : View) (vs : List ℤ) (bs : List ℕ) → claim v ≤ lineLimit → has 0x0D bs ≡ true
-      → feed answer v vs (take (suc (indexOf 0x0D bs)) bs) ≡ finished answer (finish answer vs (join v (before 0x0D bs))) []
-  first-line v vs [] k h = absurd (true≢false (sym h ∙ has-nothing))
-  first-line v vs (b ∷ bs) k h = go (eqb b 0x0D) refl (λ h. first-line (join v (b ∷ [])) vs bs (claim-join v (b ∷ [])) h)
-    where
-      w : View
-      w = join v (b ∷ [])
-
-      go : (t : Bool) → eqb b 0x0D ≡ t
-          → (has 0x0D bs ≡ true → feed answer w vs (take (suc (indexOf 0x0D bs)) bs) ≡ finished answer (finish answer vs (join w (before 0x0D bs))) [])
-          → feed answer v vs (take (suc (indexOf 0x0D (b ∷ bs))) (b ∷ bs)) ≡ finished answer (finish answer vs (join v (before 0x0D (b ∷ bs)))) []
-      go true e ih = rw (index-end b bs e, before-end b bs e, join-nothing v k) (feed-end answer v vs b [] e)
-      go false e ih =
-          rw (index-cons b bs e, before-cons b bs e, ← (join-join v (b ∷ []) (before 0x0D bs)))
-          (feed-byte answer v vs b (take (suc (indexOf 0x0D bs)) bs) e ∙ ih (sym (has-cons b bs e) ∙ h))
-
   pub feed-once : (v : View) (vs : List ℤ) (bs : List ℕ) → claim v ≤ lineLimit
       → Once (feed answer v vs (take (step answer vs v bs .consumed) bs)) (step answer vs v bs)
   unfolding finished replied waiting replyFirst ended joined
@@ -70,7 +43,7 @@ module _ (answer : Answering) where
     where
       go : (t : Bool) → has 0x0D bs ≡ t → Once (feed answer v vs (take (step answer vs v bs .consumed) bs)) (step answer vs v bs)
       go true e =
-          rw (step-finishes answer vs v bs e, first-line v vs bs k e, feed-nothing)
+          rw (step-finishes answer vs v bs e, feed-first answer v vs bs k e, feed-nothing)
           (record { replies = append-nil (finish answer vs (join v (before 0x0D bs)) .reply); values = refl; port = refl })
       go false e =
           rw (step-waits answer vs v bs e, take-length bs, feed-waits answer v vs bs k e)

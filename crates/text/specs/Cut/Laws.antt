@@ -6,7 +6,7 @@ use Prim.Native.Nat.{ℕ, zero, suc, _+_, _≤_, _<_}
 use native.Mathlib.Numerals.{add-one}
 use native.Mathlib.Nat.{zero-add}
 use native.Mathlib.Omega.{arith}
-use borrow.Author.Tests.{eq-eqb, ne-eqb}
+use borrow.Author.Tests.{eq-eqb, ne-eqb, eqb-true}
 use lib.Dec.{eqb}
 use lib.ListN.{length, getD, take, drop, drop-of-length-le}
 use lib.Seq.{drop-cons}
@@ -81,6 +81,16 @@ index-within b (x ∷ s) = either (eqb x b) (index-within b s)
     either : (t : Bool) → indexOf b s ≤ length s → cond t 0 (suc (indexOf b s)) ≤ suc (length s)
     either true h = omega arith
     either false h = omega arith
+
+-- at the place of the first b stands b
+pub index-found : (b : ℕ) (s : List ℕ) → getD s (indexOf b s) b ≡ b
+unfolding indexOf
+index-found b [] = refl
+index-found b (x ∷ s) = either (eqb x b) refl (index-found b s)
+  where
+    either : (t : Bool) → eqb x b ≡ t → getD s (indexOf b s) b ≡ b → getD (x ∷ s) (cond t 0 (suc (indexOf b s))) b ≡ b
+    either true e h = eqb-true x b e
+    either false e h = h
 
 -- ---- a first part, taken again by its own length
 
