@@ -1,19 +1,19 @@
 -- Rules for the code that serves a stream: what holds from call to call.
 use mathlib.Core.Path.{_≡_, refl, sym, ap, _∙_}
 use mathlib.Core.Bool.{true}
-use mathlib.Core.List.{List, [], _++_, append-nil, append-assoc}
+use mathlib.Core.List.{List}
 use Prim.Native.Nat.{ℕ, _+_, _-_, _≤_, _<_}
 use native.Mathlib.Nat.{zero-add, add-assoc, sub-zero}
 use native.Mathlib.Omega.{arith}
 use borrow.Rule.Slice.PartAt.{part-to-end}
-use borrow.Rule.Slice.PartMut.{putMid, post-is}
+use borrow.Rule.Slice.PartMut.{putMid}
 use lib.IntN.{ℤ}
-use lib.ListN.{length, take, drop, length-drop, drop-of-length-le}
-use lib.Seq.{sets, sets-eq, drop-drop}
+use lib.ListN.{length, take, drop, length-drop}
+use lib.Seq.{drop-drop}
 use mir.Syntax.{w64}
 use mir.Val.{Fits}
 use Rattle.written.specs.Written.{Wrote}
-use Rattle.written.specs.Written.Laws.{wrote-nothing, wrote-join, wrote-length}
+use Rattle.written.specs.Written.Laws.{wrote-nothing, wrote-join, wrote-length, lent-wrote}
 use Rattle.room.specs.Table.{sound}
 use Rattle.values.specs.Values.{valuesSound}
 use Rattle.shape.specs.Shape.{lineLimit}
@@ -32,16 +32,6 @@ use Rattle.stream.specs.Stream.Flow.{flow-nothing, flow-more}
 use Rattle.serial_port.specs.declared.port.Port.{Port}
 use Rattle.serial_port.specs.declared.port.Called.{Called}
 use Rattle.values.specs.Values.Laws.{values-many}
-
--- a text that was written at the start of the part behind n stands in the whole from n on
-part-put : (l r : List ℕ) (n : ℕ) → n + length r ≤ length l → putMid n (length l - n) l (sets (drop n l) 0 r) ≡ sets l n r
-part-put l r n h =
-    let rest : sets (drop n l) 0 r ≡ r ++ drop (n + length r) l =
-    sets-eq r (drop n l) 0 (rw (length-drop n l) (omega arith)) ∙ rw (zero-add (length r), drop-drop (length r) n l) refl in
-    let whole : length l ≤ length l = omega arith in
-    let none : drop (length l) l ≡ [] = drop-of-length-le l whole in
-    rw (rest, post-is n (length l) l (omega arith), none, append-nil (r ++ drop (n + length r) l), sets-eq r l n h)
-    (sym (append-assoc (take n l) r (drop (n + length r) l)))
 
 -- ---- from call to call
 
@@ -89,20 +79,15 @@ module _ (t : List ℕ) (vs : List ℤ) (p : Port) (bs out : List ℕ) where
     -- ---- one more call
     module _ (c : Called) (vs″ : List ℤ) (part : List ℕ) (left : 64 ≤ length out′ - n)
         (a : Answers t vs′ q (take (length bs - at) (drop at bs)) (take (length out′ - n) (drop n out′)) c vs″ part) where
-      done : Made t vs′ q (drop at bs) (drop n out′) c vs″ part
+      done : Made t vs′ q (drop at bs) (take (length out′ - n) (drop n out′)) c vs″ part
       done =
-          let b = rw (part-to-end bs at, part-to-end out′ n) at a in
-          made t vs′ q (drop at bs) (drop n out′) c vs″ part (h .sounds) (h .right) (rw (length-drop n out′) left) (h .few) b
+          let enough : 64 ≤ length (take (length out′ - n) (drop n out′)) = rw (part-to-end out′ n, length-drop n out′) left in
+          made t vs′ q (drop at bs) (take (length out′ - n) (drop n out′)) c vs″ part (h .sounds) (h .right) enough (h .few) (rw (part-to-end bs at) at a)
 
       wrote : Wrote out′ n (step (answer t) vs′ (view q) (drop at bs) .reply) (n + c .length) (putMid n (length out′ - n) out′ part)
       wrote =
-          let f = step-fits t vs′ (view q) (drop at bs) (h .sounds) (h .right) in
-          let r = done .reply in
-          let r-past = r .past in
-          record {
-            past = omega arith;
-            bytes = rw (r .bytes) (part-put out′ (step (answer t) vs′ (view q) (drop at bs) .reply) n (omega (arith, serving-within)));
-          }
+          let fits = step-fits t vs′ (view q) (drop at bs) (h .sounds) (h .right) in
+          lent-wrote out′ part n (c .length) (step (answer t) vs′ (view q) (drop at bs) .reply) (omega (arith, serving-within)) (done .reply)
 
       -- the call, fed byte by byte to what the calls before left
       fed : Once (flow t vs′ q (take (c .consumed) (drop at bs))) (step (answer t) vs′ (view q) (drop at bs))

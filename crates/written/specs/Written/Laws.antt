@@ -1,12 +1,14 @@
--- Laws of what a writer leaves: nothing written, a byte, one text behind another, and the buffer's length.
+-- Laws of what a writer leaves: nothing written, a byte, one text behind another, the buffer's length, and a lent part of the buffer.
 use mathlib.Core.Path.{_≡_, refl, sym, _∙_, ap}
-use mathlib.Core.List.{List, [], _∷_, _++_}
-use Prim.Native.Nat.{ℕ, suc, _+_, _≤_, _<_}
-use native.Mathlib.Nat.{add-zero}
+use mathlib.Core.List.{List, [], _∷_, _++_, append-assoc, append-nil}
+use Prim.Native.Nat.{ℕ, suc, _+_, _-_, _≤_, _<_}
+use native.Mathlib.Nat.{add-zero, zero-add}
 use native.Mathlib.Numerals.{add-one}
 use native.Mathlib.Omega.{arith}
-use lib.ListN.{length, getD, take, drop, set, length-append}
-use lib.Seq.{sets, sets-eq, length-sets, take-suc, take-all}
+use borrow.Rule.Slice.PartAt.{part-to-end}
+use borrow.Rule.Slice.PartMut.{putMid}
+use lib.ListN.{length, getD, take, drop, set, length-append, length-drop, drop-of-length-le}
+use lib.Seq.{sets, sets-eq, length-sets, take-suc, take-all, drop-drop}
 use Rattle.written.specs.Written.{Wrote}
 
 sets-append : (s t l : List ℕ) (i : ℕ) → sets l i (s ++ t) ≡ sets (sets l i s) (i + length s) t
@@ -38,6 +40,20 @@ wrote-length {l} {i} {s} w = ap length (w .bytes) ∙ length-sets l i s
 pub wrote-between : {l : List ℕ} {i : ℕ} {s : List ℕ} {j : ℕ} {m : List ℕ} → Wrote l i s j m → i + length s ≤ length l
     → m ≡ take i l ++ s ++ drop (i + length s) l
 wrote-between {l} {i} {s} w h = w .bytes ∙ sets-eq s l i h
+
+-- a text written at the start of the lent part from `at` on is written into the whole from `at` on
+pub lent-wrote : (l part : List ℕ) (at r : ℕ) (text : List ℕ) → at + length text ≤ length l → Wrote (take (length l - at) (drop at l)) 0 text r part
+    → Wrote l at text (at + r) (putMid at (length l - at) l part)
+lent-wrote l part at r text h w =
+    let d = drop at l in
+    let n : length d ≡ length l - at = length-drop at l in
+    let fits : 0 + length text ≤ length d = omega arith in
+    let whole : part ≡ text ++ drop (at + length text) l = w .bytes ∙ rw (part-to-end l at) (sets-eq text d 0 fits ∙ rw (zero-add (length text), drop-drop (length text) at l)) in
+    let none : drop (length l - at) d ≡ [] = drop-of-length-le d {i = length l - at} (omega arith) in
+    record {
+      past = omega (arith, w .past);
+      bytes = rw (none, append-nil part, whole) (sym (sets-eq text l at h ∙ append-assoc (take at l) text (drop (at + length text) l)));
+    }
 
 -- ---- a copy, byte by byte
 
