@@ -7,9 +7,10 @@ use native.Mathlib.Omega.{arith}
 use borrow.Rule.Slice.PartAt.{part-to-end}
 use lib.IntN.{ℤ}
 use lib.ListN.{length, take, drop, length-take, length-drop}
-use lib.Seq.{length-take-le, take-all}
+use lib.Seq.{take-all}
 use mir.Syntax.{w64}
 use mir.Val.{Fits}
+use Rattle.text.specs.Part.{part-counts}
 use Rattle.room.specs.Table.{sound}
 use Rattle.values.specs.Values.{valuesSound}
 use Rattle.shape.specs.Shape.{lineLimit}
@@ -78,9 +79,6 @@ module _ (t : List ℕ) (vs : List ℤ) (p : Port) (bs out : List ℕ) where
     pub written-within : s .length ≤ length out″
     written-within = omega (arith, a .room, serves-long t vs′ q (take (length bs - at) (drop at bs)) out′ s vs″ out″ a)
 
-    pub written-part : s .length ≡ length (take (s .length) out″)
-    written-part = sym (length-take-le (s .length) out″ written-within)
-
     most : s .consumed ≤ length bs - at
     most = omega (arith, a .within, length-take (length bs - at) (drop at bs))
 
@@ -128,7 +126,7 @@ module _ (t : List ℕ) (vs : List ℤ) (p : Port) (bs out : List ℕ) where
       let whole : take at bs ≡ bs = take-all at bs l in
       record { kept = record { right = h .right; few = h .few }; values = λ w. rw whole at (h .values); seen = λ w. rw whole at (h .seen) }
 
-pub ruleset answering = (answering-start, written-within, written-part, answering-next, answered-part, answered-all, answering-fits, answering-less)
+pub ruleset answering = (answering-start, written-within, part-counts, answering-next, answered-part, answered-all, answering-fits, answering-less)
 
 -- ---- one read
 

@@ -6,14 +6,12 @@ use Prim.Native.Nat.{ℕ, _≤_}
 use native.Mathlib.Omega.{arith}
 use lib.IntN.{ℤ}
 use lib.ListN.{length, take, drop, length-append}
-use lib.Seq.{length-take-le, take-at}
+use lib.Seq.{take-at}
 use Rattle.room.specs.Table.{sound}
 use Rattle.values.specs.Values.{Started, starts, valuesSound}
 use Rattle.values.specs.Values.Right.{starts-few, starts-right}
+use Rattle.text.specs.Part.{part-counts}
 use Rattle.text.specs.Every.{test-held}
-
-pub part-counts : (l : List ℕ) (n : ℕ) → n ≤ length l → n ≡ length (take n l)
-part-counts l n h = sym (length-take-le n l h)
 
 pub ruleset table-rules = (test-held, part-counts)
 
@@ -25,10 +23,7 @@ module _ (t : List ℕ) (before : List ℤ) (n : ℕ) (after : List ℤ) (s : St
   pub started-within : n ≤ length after
   started-within = omega (arith, s .count, ap length (s .list), length-append (starts t) (drop (length (starts t)) before))
 
-  pub started-part : n ≡ length (take n after)
-  started-part = sym (length-take-le n after started-within)
-
   pub started-right : valuesSound t (take n after) ≡ true
   started-right = rw (s .list, take-at (starts t) (drop (length (starts t)) before) n (sym (s .count))) (starts-right t)
 
-pub ruleset start-rules = (starts-room, started-within, started-part, started-right)
+pub ruleset start-rules = (starts-room, started-within, part-counts, started-right)

@@ -10,7 +10,7 @@ use borrow.Author.Tests.{not-true, leb-true, lt-ltb, le-ltb}
 use lib.Dec.{leb}
 use lib.IntN.{ℤ}
 use lib.ListN.{length, take}
-use lib.Seq.{length-take-le, take-length}
+use lib.Seq.{take-length}
 use mir.Syntax.{w64}
 use mir.Val.{Fits}
 use Rattle.text.specs.Cut.{indexOf, has, before}
@@ -26,6 +26,7 @@ use Rattle.serial_port.specs.Call.Laws.{accepted}
 use Rattle.serial_port.specs.Call.Rules.{number-table, number-values, number-buffer, number-claim, returns-refused, returns-waiting, returns-finished}
 use Rattle.serial_port.specs.declared.port.Port.{Port}
 use Rattle.text.specs.Cut.Laws.{index-within}
+use Rattle.text.specs.Part.{part-counts}
 use Rattle.text.specs.Every.{test-held}
 
 -- ---- the number
@@ -95,11 +96,11 @@ pub ruleset taking = (taken-refused, taken-table, taken-values, taken-buffer, ta
 -- ---- a call that is served
 
 module _ (bs : List ℕ) (end : ℕ) (e : end ≡ indexOf 0x0D bs) where
-  pub line-part : end ≡ length (take end bs)
-  line-part = sym (length-take-le end bs (omega (arith, index-within 0x0D bs)))
+  pub line-within : end ≤ length bs
+  line-within = omega (arith, index-within 0x0D bs)
 
   pub end-fits : (end ≡ length bs → ⊥) → length bs < 18446744073709551616 → Fits w64 (end + 1)
-  end-fits h k = record { fits = omega (arith, index-within 0x0D bs) }
+  end-fits h k = record { fits = omega (arith, line-within) }
 
   line-before : take end bs ≡ before 0x0D bs
   unfolding before
@@ -111,7 +112,7 @@ module _ (bs : List ℕ) (end : ℕ) (e : end ≡ indexOf 0x0D bs) where
 
   has-one : (end ≡ length bs → ⊥) → has 0x0D bs ≡ true
   unfolding has
-  has-one h = lt-ltb (indexOf 0x0D bs) (length bs) (omega (arith, index-within 0x0D bs))
+  has-one h = lt-ltb (indexOf 0x0D bs) (length bs) (omega (arith, line-within))
 
   module _ (t : List ℕ) (vs : List ℤ) (p : Port) (buffer : List ℕ) (q : Port) (s : sound t ≡ true) (v : valuesSound t vs ≡ true)
       (h : 64 ≤ length buffer) (k : p .len ≤ 64) (c : Collects p (take end bs) q) where
@@ -138,4 +139,4 @@ pub served-few : (p : Port) (bs : List ℕ) (q : Port) → Collects p bs q → q
 unfolding lineLimit
 served-few p bs q c = c .few
 
-pub ruleset serving = (line-part, end-fits, served-waiting, served-finished, served-few)
+pub ruleset serving = (part-counts, line-within, end-fits, served-waiting, served-finished, served-few)

@@ -6,9 +6,10 @@ use Prim.Native.Nat.{ℕ, _+_, _-_, _≤_, _<_}
 use native.Mathlib.Omega.{arith}
 use lib.ListN.{length, take, drop, length-append}
 use lib.Seq.{sets, sets-eq, take-at, length-take-le}
+use Rattle.text.specs.Part.{part-counts}
 use Rattle.written.specs.Written.{Wrote}
 use Rattle.shape.specs.Shape.{lineLimit}
-use Rattle.serial_port.specs.Port.{view, held, fit, join}
+use Rattle.serial_port.specs.Port.{view, fit, join}
 use Rattle.serial_port.specs.Port.Laws.{fit-short, fit-long}
 use Rattle.serial_port.specs.declared.port.Port.{Port}
 
@@ -61,9 +62,6 @@ module _ (l : List ℕ) (n : ℕ) (few : n ≤ 64) (long : length l ≡ 64) wher
   pub held-within : n ≤ length l
   held-within = omega arith
 
-  pub held-part : n ≡ length (take n l)
-  held-part = sym (length-take-le n l (omega arith))
-
-pub ruleset holding = (held-room, held-within, held-part)
+pub ruleset holding = (held-room, held-within, part-counts)
 
 pub ruleset collecting = (collects-over, collects-overrun, collects-bytes)
