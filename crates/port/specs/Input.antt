@@ -35,6 +35,11 @@ pub record Answers (t : List ℕ) (vs : List ℤ) (p : Port) (bs : List ℕ) (a 
   pub values : a .written ≡ true → vs′ ≡ flow t vs p bs .values
   pub seen : a .written ≡ true → view (a .port) ≡ flow t vs p bs .port
 
+-- where a reply could not be written, no more is promised than what is kept
+unwritten : {t : List ℕ} {vs : List ℤ} {p : Port} {bs : List ℕ} {vs′ : List ℤ} {q : Port} → Kept t vs′ q
+    → Answers t vs p bs (record { port = q; written = false }) vs′
+unwritten k = record { kept = k; values = λ w. absurd (true≢false (sym w)); seen = λ w. absurd (true≢false (sym w)) }
+
 -- what answering one read leaves: bytes came or none, how many and which is outside the proof, and they were answered
 pub record AnswersRead (t : List ℕ) (vs : List ℤ) (p : Port) (input : List ℕ) (a : Answered) (vs′ : List ℤ) : Type 0 where
   pub count : ℕ
@@ -46,9 +51,8 @@ pub record AnswersRead (t : List ℕ) (vs : List ℤ) (p : Port) (input : List �
 -- `at` bytes of bs were answered
 pub record Answering (t : List ℕ) (vs : List ℤ) (p : Port) (bs out : List ℕ) (vs′ : List ℤ) (q : Port) (at : ℕ) (out′ : List ℕ) : Type 0 where
   pub sounds : sound t ≡ true
-  pub right : valuesSound t vs′ ≡ true
+  pub kept : Kept t vs′ q
   pub size : length vs′ ≡ length vs
-  pub few : q .len ≤ 64
   pub within : at ≤ length bs
   pub fits : length bs < 18446744073709551616
   pub room : 64 ≤ length out
@@ -63,9 +67,8 @@ module _ (t : List ℕ) (vs : List ℤ) (p : Port) (bs out : List ℕ) where
       let e = flow-nothing t vs p in
       record {
         sounds = s;
-        right = r;
+        kept = record { right = r; few = k };
         size = refl;
-        few = k;
         within = omega arith;
         fits = f;
         room = l;
@@ -89,11 +92,15 @@ module _ (t : List ℕ) (vs : List ℤ) (p : Port) (bs out : List ℕ) where
     unfolding lineLimit followed
     answering-next =
         let more = flow-more t vs p bs at vs′ q (h .values) (h .seen) (s .consumed) in
+        let k = h .kept in
         record {
           sounds = h .sounds;
-          right = serves-right t vs′ q (take (length bs - at) (drop at bs)) out′ s vs″ out″ (h .sounds) (h .right) (h .few) a;
-          size = serves-size t vs′ q (take (length bs - at) (drop at bs)) out′ s vs″ out″ (h .sounds) (h .right) (h .few) a ∙ h .size;
-          few = a .few;
+          kept =
+              record {
+                right = serves-right t vs′ q (take (length bs - at) (drop at bs)) out′ s vs″ out″ (h .sounds) (k .right) (k .few) a;
+                few = a .few;
+              };
+          size = serves-size t vs′ q (take (length bs - at) (drop at bs)) out′ s vs″ out″ (h .sounds) (k .right) (k .few) a ∙ h .size;
           within = omega (arith, most, h .within);
           fits = h .fits;
           room = h .room;
@@ -104,12 +111,7 @@ module _ (t : List ℕ) (vs : List ℤ) (p : Port) (bs out : List ℕ) where
 
     -- the replies could not be written
     pub answered-part : Answers t vs p bs (record { port = s .port; written = false }) vs″
-    answered-part =
-        record {
-          kept = record { right = answering-next .right; few = answering-next .few };
-          values = λ w. absurd (true≢false (sym w));
-          seen = λ w. absurd (true≢false (sym w));
-        }
+    answered-part = unwritten (answering-next .kept)
 
     pub answering-fits : Fits w64 (at + s .consumed)
     answering-fits = record { fits = omega (arith, most, h .within, h .fits) }
@@ -124,7 +126,7 @@ module _ (t : List ℕ) (vs : List ℤ) (p : Port) (bs out : List ℕ) where
       → Answers t vs p bs (record { port = q; written = true }) vs′
   answered-all vs′ q at out′ h l =
       let whole : take at bs ≡ bs = take-all at bs l in
-      record { kept = record { right = h .right; few = h .few }; values = λ w. rw whole at (h .values); seen = λ w. rw whole at (h .seen) }
+      record { kept = h .kept; values = λ w. rw whole at (h .values); seen = λ w. rw whole at (h .seen) }
 
 pub ruleset answering = (answering-start, written-within, part-counts, answering-next, answered-part, answered-all, answering-fits, answering-less)
 
@@ -133,17 +135,7 @@ pub ruleset answering = (answering-start, written-within, part-counts, answering
 module _ (t : List ℕ) (vs : List ℤ) (p : Port) (input : List ℕ) where
   -- nothing came
   pub read-nothing : valuesSound t vs ≡ true → p .len ≤ 64 → AnswersRead t vs p input (record { port = p; written = false }) vs
-  read-nothing r k =
-      record {
-        count = 0;
-        within = omega arith;
-        answers =
-            record {
-              kept = record { right = r; few = k };
-              values = λ w. absurd (true≢false (sym w));
-              seen = λ w. absurd (true≢false (sym w));
-            };
-      }
+  read-nothing r k = record { count = 0; within = omega arith; answers = unwritten (record { right = r; few = k }) }
 
   pub read-some : (count : ℕ) (a : Answered) (vs′ : List ℤ) → count ≤ length input → Answers t vs p (take count input) a vs′
       → AnswersRead t vs p input a vs′
