@@ -2,7 +2,7 @@
 use mathlib.Core.Path.{_≡_, refl, sym, _∙_}
 use mathlib.Core.Bool.{true, false}
 use mathlib.Core.List.{List, []}
-use Prim.Native.Nat.{ℕ, suc, _+_, _≤_}
+use Prim.Native.Nat.{ℕ, zero, suc, _+_, _≤_}
 use native.Mathlib.Omega.{arith}
 use borrow.Author.Tests.{le-leb}
 use lib.IntN.{ℤ}
@@ -15,10 +15,11 @@ use Rattle.shape.specs.Shape.{lineLimit}
 use Rattle.reply.specs.Reply.{nak}
 use Rattle.answer.specs.Answer.{answer}
 use Rattle.answer.specs.Answer.Replies.{reply-limit}
-use Rattle.serial_port.specs.Port.{View, held, over, Same, claim, join}
+use Rattle.serial_port.specs.Port.{View, held, over, view, Same, claim, join}
 use Rattle.serial_port.specs.Port.Laws.{join-nothing, same-seen, seen-same}
-use Rattle.serial_port.specs.Call.{Answering, step, replied, waiting, finish, replyLimit, callNumber, call, Handed}
+use Rattle.serial_port.specs.Call.{Answering, step, replied, waiting, finish, replyLimit, callNumber, call, Handed, Answers}
 use Rattle.serial_port.specs.declared.port.Port.{Port}
+use Rattle.serial_port.specs.declared.port.Called.{Called}
 
 -- when no refusal applies
 pub accepted : (t : List ℕ) (vs : List ℤ) (replyRoom claimed : ℕ) → sound t ≡ true → valuesSound t vs ≡ true
@@ -69,6 +70,17 @@ pub same-call : (t : List ℕ) (vs : List ℤ) (p q : Port) (bs buffer : List �
 unfolding call
 same-call t vs p q bs buffer h k s = rw (same-seen p q s, refused-alike t vs (length buffer) (p .len) (q .len) h k) refl
 
--- an accepted call fixes the port that it hands back so far
-pub same-handed : (p : Port) (v : View) (q r : Port) → Handed 0 p v q → Handed 0 p v r → Same q r
-same-handed p v q r h k = seen-same q r (h .1) (k .1) (h .0 ∙ sym (k .0))
+handed-alike : (number : ℕ) (v : View) (p p′ q r : Port) → Same p p′ → Handed number p v q → Handed number p′ v r → Same q r
+handed-alike zero v p p′ q r s h k = seen-same q r (h .1) (k .1) (h .0 ∙ sym (k .0))
+handed-alike (suc n) v p p′ q r s h k = rw (h, k) s
+
+-- given the same bytes, they are handed back as ports that count as the same
+pub same-handed : (t : List ℕ) (vs : List ℤ) (p p′ : Port) (bs buffer : List ℕ) → p .len ≤ lineLimit → p′ .len ≤ lineLimit → Same p p′
+    → (c c′ : Called) (vs′ vs″ : List ℤ) (buffer′ buffer″ : List ℕ) → Answers t vs p bs buffer c vs′ buffer′ → Answers t vs p′ bs buffer c′ vs″ buffer″
+    → Same (c .port) (c′ .port)
+same-handed t vs p p′ bs buffer h k s c c′ vs′ vs″ buffer′ buffer″ a b =
+    let number = callNumber t vs (length buffer) (p .len) in
+    let seen = step (answer t) vs (view p) bs .port in
+    let handed : Handed number p′ seen (c′ .port) =
+    rw (same-seen p p′ s, refused-alike t vs (length buffer) (p .len) (p′ .len) h k) (b .handed) in
+    handed-alike number seen p p′ (c .port) (c′ .port) s (a .handed) handed

@@ -1,7 +1,7 @@
 -- Playing is feeding byte by byte: over a sound table and right values no call of it is refused.
 use mathlib.Core.Path.{_≡_, refl, sym, _∙_, ap}
 use mathlib.Core.Bool.{Bool, true, false}
-use mathlib.Core.List.{List, [], _∷_, _++_}
+use mathlib.Core.List.{List, [], _∷_}
 use Prim.Native.Nat.{ℕ, zero, suc, _≤_}
 use native.Mathlib.Omega.{arith}
 use lib.IntN.{ℤ}
@@ -18,7 +18,7 @@ use Rattle.serial_port.specs.Port.Laws.{fresh-few, claim-join}
 use Rattle.serial_port.specs.Call.{Answering, finish, replied, waiting, replyLimit}
 use Rattle.serial_port.specs.Call.Laws.{accepted, step-finishes, step-waits}
 use Rattle.serial_port.specs.Play.{replyFirst, first, playFrom, refusal, play, feed}
-use Rattle.serial_port.specs.Play.Feed.{finished, feed-waits, feed-finishes, feed-serves, feed-line}
+use Rattle.serial_port.specs.Play.Feed.{finished, feed-waits, feed-finishes, feed-serves}
 use Rattle.serial_port.specs.Play.Kept.{Keeps, finish-keeps}
 
 after-shorter : (b : ℕ) (bs : List ℕ) → length (after 0x0D (b ∷ bs)) ≤ length bs
@@ -94,11 +94,3 @@ module _ (t : List ℕ) (is-sound : sound t ≡ true) (replyRooms : ℕ → ℕ)
   -- no call of a play is refused
   pub play-serves : (vs : List ℤ) (bs : List ℕ) → Right t vs → play t replyRooms vs bs .refused ≡ false
   play-serves vs bs r = ap (λ p. p .refused) (plays vs bs r) ∙ feed-serves (answer t) fresh vs bs
-
-  -- lines one after the other: the reply to the first, and the rest played from the values after it
-  pub play-line : (vs : List ℤ) (l rest : List ℕ) → Right t vs → length l ≤ lineLimit → has 0x0D l ≡ false
-      → play t replyRooms vs (l ++ 0x0D ∷ rest) ≡ replyFirst (answer t vs l .reply) (play t replyRooms (answer t vs l .values) rest)
-  unfolding finished
-  play-line vs l rest r k h =
-      plays vs (l ++ 0x0D ∷ rest) r ∙ feed-line (answer t) vs l rest k h
-      ∙ ap (replyFirst (answer t vs l .reply)) (sym (plays (answer t vs l .values) rest (keeps-right t is-sound vs l k r)))

@@ -1,7 +1,6 @@
 -- Laws of the port's view: joining bytes to the held line, and when two ports are the same.
 use mathlib.Core.Path.{_≡_, refl, _∙_, ap}
 use mathlib.Core.Bool.{Bool, true, false, cond}
-use mathlib.Core.Logic.{_↔_}
 use mathlib.Core.List.{List, [], _++_, append-nil, append-assoc}
 use Prim.Native.Nat.{ℕ, _+_, _≤_, _<_}
 use native.Mathlib.Omega.{arith}
@@ -105,16 +104,3 @@ seen-same p q h k s = go (p .overrun) (q .overrun) refl refl s
     go true false a b e = absurd (let z : _≡_ {A = ℕ} 0 1 = cc in omega arith)
     go false true a b e = absurd (let z : _≡_ {A = ℕ} 0 1 = cc in omega arith)
     go false false a b e = both-held a b (cc)
-
-pub same-exactly : (p q : Port) → p .len ≤ lineLimit → q .len ≤ lineLimit → Same p q ↔ (view p ≡ view q)
-same-exactly p q h k = (same-seen p q, seen-same p q h k)
-
--- ports that have not overrun are the same exactly when their held bytes are equal, whatever they claim
-pub same-held : (p q : Port) → p .overrun ≡ false → q .overrun ≡ false → Same p q ↔ (take (p .len) (p .held) ≡ take (q .len) (q .held))
-unfolding view
-same-held p q a b = (λ s. let e = same-seen p q s in cc, both-held a b)
-
--- an overrun port that claims over 64 bytes is the same as none
-pub same-few : (p q : Port) → Same p q → p .overrun ≡ true → (p .len ≤ lineLimit) × (q .len ≤ lineLimit)
-same-few p q (both-over a b h k) o = (h, k)
-same-few p q (both-held a b e) o = absurd (let z : _≡_ {A = ℕ} 0 1 = cc in omega arith)
