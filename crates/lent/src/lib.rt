@@ -69,7 +69,7 @@ pub fn tell_two(told: &mut [u64], first: u64, second: u64)
     told[1] = second;
 }
 
-// Tells a part of the log, where it starts and its size, and answers 0.
+// Tells the part for the log, where it starts and its size, and answers 0.
 pub fn tell_three(told: &mut [u64], part: u64, start: u64, size: u64) -> u8
     requires { ⌜ length (now told) ≡ 3 ⌝ }
     ensures { λ r. ⌜ (r ≡ 0) × (now (told .exit) ≡ part ∷ start ∷ size ∷ []) ⌝ }

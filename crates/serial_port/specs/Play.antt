@@ -25,7 +25,7 @@ pub record Played : Type 0 where
 unfoldable pub ended : View → List ℤ → Played
 ended v vs = record { replies = []; values = vs; port = v; refused = false }
 
--- a call was refused: it consumed nothing, so that the play does not end; nor would it if calls as many as bytes left some over
+-- a call was refused: it consumed nothing, so the play does not end; the same where as many calls as there are bytes leave some over
 unfoldable pub stopped : View → List ℤ → Played
 stopped v vs = record { replies = []; values = vs; port = v; refused = true }
 

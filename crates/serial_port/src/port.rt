@@ -60,7 +60,7 @@ fn call_number(
 }
 
 impl Port {
-    // How many bytes a port may hold, how many a reply may have, and how many modules a table may have.
+    // How many bytes a port may hold, how many bytes a reply buffer must have, and how many modules a table may have.
     pub const HELD: usize = 64;
 
     pub const REPLY: usize = 64;

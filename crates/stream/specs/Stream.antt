@@ -30,7 +30,7 @@ unfoldable pub flow : List ℕ → List ℤ → Port → List ℕ → Played
 flow t vs p bs = feed (answer t) (view p) vs bs
 
 -- how many bytes are consumed by calls that are made one after the other while bytes are left and `room` has 64 bytes for a reply. A call that is given a byte consumes
--- one, so no more calls are made than there are bytes
+-- one or more, so no more calls are made than there are bytes
 unfoldable pub consumes : (calls : ℕ) → List ℕ → List ℤ → View → (bs : List ℕ) → (room : ℕ) → ℕ
 consumes zero t vs v bs room = 0
 consumes (suc calls) t vs v [] room = 0
@@ -39,7 +39,7 @@ consumes (suc calls) t vs v (b ∷ bs) room =
     cond (ltb room replyLimit) 0 (s .consumed + consumes calls t (s .values) (s .port) (drop (s .consumed) (b ∷ bs)) (room - length (s .reply)))
 
 -- the promise of serving bs: it consumes so many bytes, which give the replies at the start of `out`, the values and the port; later bytes of `out` stay.
--- Left open, as for a call, is what the port stores past its held bytes
+-- Left open, as for a call, are the held bytes of a port that has overrun, and what is stored past the held bytes
 pub record Serves (t : List ℕ) (vs : List ℤ) (p : Port) (bs out : List ℕ) (s : Served) (vs′ : List ℤ) (out′ : List ℕ) : Type 0 where
   pub consumed : s .consumed ≡ consumes (length bs) t vs (view p) bs (length out)
   pub within : s .consumed ≤ length bs

@@ -1,4 +1,4 @@
--- What every line keeps, a byte sequence keeps; and a byte sequence is as long as what it brings about.
+-- What every line keeps, a byte sequence keeps; and a byte sequence is at least as long as what it brings about.
 use mathlib.Core.Path.{_≡_, refl}
 use mathlib.Core.Bool.{Bool, true, false}
 use mathlib.Core.List.{List, [], _∷_}

@@ -66,7 +66,7 @@ fit-claim l = go (leb (length l) lineLimit) refl
     go true e = let h = leb-true (length l) lineLimit e in rw (fit-short l h) (omega arith)
     go false e = rw (fit-long l (leb-false (length l) lineLimit e)) (omega arith)
 
--- a port that a call leaves claims at most 64 bytes, and no more than it was given
+-- a port that a call leaves claims at most 64 bytes, and no more than it held and was given together
 pub claim-join : (v : View) (bs : List ℕ) → claim (join v bs) ≤ lineLimit
 unfolding join claim
 claim-join (held l) bs = fit-claim (l ++ bs) .0
@@ -77,7 +77,7 @@ unfolding join claim
 claim-join-length (held l) bs = simp (← length-append) (fit-claim (l ++ bs) .1)
 claim-join-length over bs = omega arith
 
--- a port that claims at most 64 bytes is seen to
+-- a port that claims at most 64 bytes is seen as one that does
 pub claim-view : (p : Port) → p .len ≤ lineLimit → claim (view p) ≤ lineLimit
 unfolding view
 claim-view p h = go (p .overrun)

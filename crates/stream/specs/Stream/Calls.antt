@@ -29,7 +29,7 @@ unfolding joined
 joined-append [] ss = refl
 joined-append (r ∷ rs) ss = ap (λ l. r ++ l) (joined-append rs ss) ∙ sym (append-assoc r (joined rs) (joined ss))
 
--- the given part of a play and the step of a call are the same
+-- a play gives the replies, the values and the port of one step
 pub record Once (p : Played) (s : Step) : Type 0 where
   pub replies : joined (p .replies) ≡ s .reply
   pub values : p .values ≡ s .values
@@ -57,7 +57,7 @@ module _ (answer : Answering) where
       go true e = rw (step-finishes answer vs v bs e) (let l = ltb-true (indexOf 0x0D bs) (length bs) e in omega arith)
       go false e = rw (step-waits answer vs v bs e) (omega arith)
 
-  -- a call that is given a byte consumes one
+  -- a call that is given a byte consumes one or more
   pub consumed-some : (v : View) (vs : List ℤ) (bs : List ℕ) → 1 ≤ length bs → 1 ≤ step answer vs v bs .consumed
   unfolding replied waiting
   consumed-some v vs bs h = go (has 0x0D bs) refl
@@ -66,7 +66,7 @@ module _ (answer : Answering) where
       go true e = rw (step-finishes answer vs v bs e) (omega arith)
       go false e = rw (step-waits answer vs v bs e) h
 
--- every reply fits a buffer of 64 bytes
+-- the reply of any step fits 64 bytes
 pub step-fits : (t : List ℕ) (vs : List ℤ) (v : View) (bs : List ℕ) → sound t ≡ true → valuesSound t vs ≡ true → length (step (answer t) vs v bs .reply) ≤ 64
 unfolding replied waiting replyLimit
 step-fits t vs v bs s r = go (has 0x0D bs) refl
