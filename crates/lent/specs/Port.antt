@@ -44,7 +44,7 @@ portTells number told vs reply = record { number = number; told = told; values =
 
 -- the two counts: bytes consumed, and the reply's length
 unfoldable pub counted : Told → PortAnswer
-counted c = portTells (c .number) (c .consumed ∷ c .length ∷ []) (c .values) (c .buffer)
+counted c = portTells (c .number) (c .consumed ∷ c .sent ∷ []) (c .values) (c .buffer)
 
 -- the whole call: 255 changes nothing, and a refusal counts zero and changes nothing else
 unfoldable pub portAnswer : (table : List ℕ) → List ℤ → (port given reply told : List ℕ) → PortAnswer

@@ -79,7 +79,7 @@ module _ (t : List ℕ) (vs : List ℤ) (p : Port) (bs out : List ℕ) where
 
   module _ (vs′ : List ℤ) (q : Port) (at : ℕ) (out′ : List ℕ) (h : Answering t vs p bs out vs′ q at out′) (s : Served) (vs″ : List ℤ) (out″ : List ℕ)
       (a : Serves t vs′ q (take (length bs - at) (drop at bs)) out′ s vs″ out″) where
-    pub written-within : s .length ≤ length out″
+    pub written-within : s .sent ≤ length out″
     written-within = omega (arith, a .room, serves-long t vs′ q (take (length bs - at) (drop at bs)) out′ s vs″ out″ a)
 
     most : s .consumed ≤ length bs - at

@@ -39,8 +39,8 @@ fn answer_bytes(
         let served = serve_all(table, rows, values, port, &given[at..], out);
         port = served.port;
         at += served.consumed;
-        let length = served.length;
-        if !io::write_all(STDOUT_FILENO, &out[..length]) {
+        let sent = served.sent;
+        if !io::write_all(STDOUT_FILENO, &out[..sent]) {
             return Answered {
                 port: port,
                 written: false,
@@ -102,10 +102,13 @@ fn answer_all(
     }
 }
 
-fn value_list() -> [i64; 2112]
+// As many values as a table may have: 33 rows for each of its modules.
+const VALUES: usize = Port::MODULES * 33;
+
+fn value_list() -> [i64; VALUES]
     ensures { λ r. ⌜ 2112 ≡ length r ⌝ }
 {
-    [0; 2112]
+    [0; VALUES]
 }
 
 // Serves standard input from the start values on.

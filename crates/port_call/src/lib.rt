@@ -19,7 +19,7 @@ pub fn call_port(
     ensures { λ r. ⌜ PortCalled (now (table .entry)) (now (values .entry)) (now (port .entry)) (now (given .entry)) (now (reply .entry)) (now (told .entry)) r (now (values .exit)) (now (port .exit)) (now (reply .exit)) (now (told .exit)) ⌝ }
 {
     let called = port_of(port).take(table, values, given, reply);
-    tell_two(told, called.consumed as u64, called.length as u64);
+    tell_two(told, called.consumed as u64, called.sent as u64);
     if called.number != 0 {
         return called.number;
     }

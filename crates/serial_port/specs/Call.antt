@@ -66,15 +66,15 @@ callNumber t vs replyRoom claimed =
 pub record Told : Type 0 where
   pub number : ℕ
   pub consumed : ℕ
-  pub length : ℕ
+  pub sent : ℕ
   pub values : List ℤ
   pub buffer : List ℕ
 
 -- the reply stands first in its buffer, and what is behind it stays; a refusal counts zero and changes nothing
 unfoldable pub tell : (number : ℕ) → List ℤ → (buffer : List ℕ) → Step → Told
 tell zero vs buffer s =
-    record { number = 0; consumed = s .consumed; length = length (s .reply); values = s .values; buffer = sets buffer 0 (s .reply) }
-tell (suc n) vs buffer s = record { number = suc n; consumed = 0; length = 0; values = vs; buffer = buffer }
+    record { number = 0; consumed = s .consumed; sent = length (s .reply); values = s .values; buffer = sets buffer 0 (s .reply) }
+tell (suc n) vs buffer s = record { number = suc n; consumed = 0; sent = 0; values = vs; buffer = buffer }
 
 -- the whole call, on the table t
 unfoldable pub call : (table : List ℕ) → List ℤ → Port → List ℕ → (buffer : List ℕ) → Told
@@ -88,7 +88,7 @@ Handed (suc n) p v q = q ≡ p
 
 -- what the answer c tells, with the values and the reply buffer as they are afterwards
 unfoldable pub tells : Called → (values : List ℤ) → (buffer : List ℕ) → Told
-tells c vs buffer = record { number = c .number; consumed = c .consumed; length = c .length; values = vs; buffer = buffer }
+tells c vs buffer = record { number = c .number; consumed = c .consumed; sent = c .sent; values = vs; buffer = buffer }
 
 -- the promise of the port call: what it tells, and the port that it hands back
 pub record Answers (t : List ℕ) (vs : List ℤ) (p : Port) (bs buffer : List ℕ) (c : Called) (vs′ : List ℤ) (buffer′ : List ℕ) : Type 0 where

@@ -20,16 +20,16 @@ ghost use Rattle.serial_port.specs.Port.Collecting.{Collects};
 
 // The bytes of the unfinished line, how many they are, and whether the line has overrun.
 pub struct Port {
-    pub held: [u8; 64],
+    pub held: [u8; Port::HELD],
     pub len: usize,
     pub overrun: bool,
 }
 
-// The port handed back, the bytes consumed, the length of the reply, and the number of a refusal or 0.
+// The port handed back, how many bytes were consumed and how many sent as the reply, and the number of a refusal or 0.
 pub struct Called {
     pub port: Port,
     pub consumed: usize,
-    pub length: usize,
+    pub sent: usize,
     pub number: u8,
 }
 
@@ -72,7 +72,7 @@ impl Port {
         ensures { λ r. ⌜ (view r ≡ fresh) × (r .len ≡ 0) ⌝ }
     {
         Port {
-            held: [0; 64],
+            held: [0; Port::HELD],
             len: 0,
             overrun: false,
         }
@@ -142,15 +142,15 @@ impl Port {
             return Called {
                 port: port,
                 consumed: end,
-                length: 0,
+                sent: 0,
                 number: 0,
             };
         }
-        let length = port.finish(table, rows, values, reply);
+        let sent = port.finish(table, rows, values, reply);
         Called {
             port: Port::fresh(),
             consumed: end + 1,
-            length: length,
+            sent: sent,
             number: 0,
         }
     }
@@ -165,7 +165,7 @@ impl Port {
             return Called {
                 port: self,
                 consumed: 0,
-                length: 0,
+                sent: 0,
                 number: number,
             };
         }

@@ -43,8 +43,8 @@ consumes (suc calls) t vs v (b ∷ bs) room =
 pub record Serves (t : List ℕ) (vs : List ℤ) (p : Port) (bs out : List ℕ) (s : Served) (vs′ : List ℤ) (out′ : List ℕ) : Type 0 where
   pub consumed : s .consumed ≡ consumes (length bs) t vs (view p) bs (length out)
   pub within : s .consumed ≤ length bs
-  pub room : s .length ≤ length out
-  pub replies : Wrote out 0 (joined (flow t vs p (take (s .consumed) bs) .replies)) (s .length) out′
+  pub room : s .sent ≤ length out
+  pub replies : Wrote out 0 (joined (flow t vs p (take (s .consumed) bs) .replies)) (s .sent) out′
   pub values : vs′ ≡ flow t vs p (take (s .consumed) bs) .values
   pub seen : view (s .port) ≡ flow t vs p (take (s .consumed) bs) .port
   pub few : s .port .len ≤ lineLimit

@@ -9,11 +9,11 @@ ghost use Rattle.room.specs.Table.{sound};
 ghost use Rattle.values.specs.Values.{valuesSound};
 ghost use Rattle.stream.specs.Stream.{Serves};
 
-// The port handed back, the bytes consumed, and the length of the replies.
+// The port handed back, and how many bytes were consumed and how many sent as replies.
 pub struct Served {
     pub port: Port,
     pub consumed: usize,
-    pub length: usize,
+    pub sent: usize,
 }
 
 // Serves the given bytes until all are consumed or `out` has no room for another reply.
@@ -37,17 +37,17 @@ pub fn serve_all(
             return Served {
                 port: port,
                 consumed: at,
-                length: end,
+                sent: end,
             };
         }
         let called = port.serve(table, rows, values, &given[at..], &mut out[end..]);
         port = called.port;
         at += called.consumed;
-        end += called.length;
+        end += called.sent;
     }
     Served {
         port: port,
         consumed: at,
-        length: end,
+        sent: end,
     }
 }

@@ -63,7 +63,7 @@ fn play_line(table: &[u8], values: &mut [i64], script: &[u8]) -> Played {
     let mut reply = [0u8; 64];
     let called = Port::fresh().take(table, values, script, &mut reply);
     let line = called.consumed;
-    let length = called.length;
+    let length = called.sent;
     let end = reply_end(script, line);
     let right = check::same(front(&reply, length), between(script, line, end));
     Played { at: end, right }

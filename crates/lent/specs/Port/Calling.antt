@@ -78,7 +78,7 @@ module _ (t : List ℕ) (vs : List ℤ) (port given reply : List ℕ) (p : Port)
   unfolding lineLimit
   served-few z = handed-is z .1
 
-  module _ (told told′ : List ℕ) (l : portLent port told ≡ true) (k : told′ ≡ c .consumed ∷ c .length ∷ []) where
+  module _ (told told′ : List ℕ) (l : portLent port told ≡ true) (k : told′ ≡ c .consumed ∷ c .sent ∷ []) where
     answer-is : portTells (c .number) told′ vs′ reply′ ≡ portAnswer t vs port given reply told
     unfolding portAnswer counted tells
     answer-is = rw (l, ← told-is, k) refl

@@ -43,14 +43,14 @@ number-claim t vs replyRoom claimed s r h k = rw (s, r, le-leb replyLimit replyR
 module _ (t : List ℕ) (vs : List ℤ) (p : Port) (bs buffer : List ℕ) where
   -- a refusal
   pub returns-refused : (n : ℕ) → callNumber t vs (length buffer) (p .len) ≡ n → (n ≡ 0 → ⊥)
-      → Answers t vs p bs buffer (record { port = p; consumed = 0; length = 0; number = n }) vs buffer
+      → Answers t vs p bs buffer (record { port = p; consumed = 0; sent = 0; number = n }) vs buffer
   unfolding call tell tells
   returns-refused zero e h = absurd (h refl)
   returns-refused (suc n) e h = record { told = rw e refl; handed = rw e refl }
 
   -- no 0D: no reply, and the port with the longer line
   pub returns-waiting : (q : Port) → callNumber t vs (length buffer) (p .len) ≡ 0 → has 0x0D bs ≡ false → view q ≡ join (view p) bs → q .len ≤ lineLimit
-      → Answers t vs p bs buffer (record { port = q; consumed = length bs; length = 0; number = 0 }) vs buffer
+      → Answers t vs p bs buffer (record { port = q; consumed = length bs; sent = 0; number = 0 }) vs buffer
   unfolding call tell tells waiting
   returns-waiting q e h s k = let w = step-waits (answer t) vs (view p) bs h in record { told = rw (e, w) refl; handed = rw (e, w) (s, k) }
 
@@ -58,7 +58,7 @@ module _ (t : List ℕ) (vs : List ℤ) (p : Port) (bs buffer : List ℕ) where
   pub returns-finished : (q : Port) (n : ℕ) (vs′ : List ℤ) (buffer′ : List ℕ) → callNumber t vs (length buffer) (p .len) ≡ 0 → has 0x0D bs ≡ true
       → n ≡ length (finish (answer t) vs (join (view p) (before 0x0D bs)) .reply) → vs′ ≡ finish (answer t) vs (join (view p) (before 0x0D bs)) .values
       → buffer′ ≡ sets buffer 0 (finish (answer t) vs (join (view p) (before 0x0D bs)) .reply) → view q ≡ fresh → q .len ≤ lineLimit
-      → Answers t vs p bs buffer (record { port = q; consumed = suc (indexOf 0x0D bs); length = n; number = 0 }) vs′ buffer′
+      → Answers t vs p bs buffer (record { port = q; consumed = suc (indexOf 0x0D bs); sent = n; number = 0 }) vs′ buffer′
   unfolding call tell tells replied
   returns-finished q n vs′ buffer′ e h l v b s k =
       let w = step-finishes (answer t) vs (view p) bs h in

@@ -75,7 +75,7 @@ accepts t vs replyRoom claimed e = go (sound t) (valuesSound t vs) (leb 64 reply
     go false b c d p q r s e = absurd (omega arith)
 
 module _ (t : List ℕ) (vs : List ℤ) (p : Port) (bs buffer : List ℕ) (n : ℕ) (e : n ≡ callNumber t vs (length buffer) (p .len)) where
-  pub taken-refused : (n ≡ 0 → ⊥) → Answers t vs p bs buffer (record { port = p; consumed = 0; length = 0; number = n }) vs buffer
+  pub taken-refused : (n ≡ 0 → ⊥) → Answers t vs p bs buffer (record { port = p; consumed = 0; sent = 0; number = n }) vs buffer
   taken-refused h = returns-refused t vs p bs buffer n (sym e) h
 
 module _ (t : List ℕ) (vs : List ℤ) (replyRoom claimed n : ℕ) (e : n ≡ callNumber t vs replyRoom claimed) (z : n ≡ 0) where
@@ -120,13 +120,13 @@ module _ (bs : List ℕ) (end : ℕ) (e : end ≡ indexOf 0x0D bs) where
     unfolding replyLimit lineLimit
     number = accepted t vs (length buffer) (p .len) s v h k
 
-    pub served-waiting : end ≡ length bs → Answers t vs p bs buffer (record { port = q; consumed = end; length = 0; number = 0 }) vs buffer
+    pub served-waiting : end ≡ length bs → Answers t vs p bs buffer (record { port = q; consumed = end; sent = 0; number = 0 }) vs buffer
     served-waiting w =
         let all : take end bs ≡ bs = rw (w, take-length) in
         rw w (returns-waiting t vs p bs buffer q number (has-none w) (rw all at (c .seen)) (c .few))
 
     pub served-finished : (n : ℕ) (vs′ : List ℤ) (buffer′ : List ℕ) (r : Port) → (end ≡ length bs → ⊥) → Finishes t vs q buffer n vs′ buffer′ → view r ≡ fresh
-        → r .len ≡ 0 → Answers t vs p bs buffer (record { port = r; consumed = end + 1; length = n; number = 0 }) vs′ buffer′
+        → r .len ≡ 0 → Answers t vs p bs buffer (record { port = r; consumed = end + 1; sent = n; number = 0 }) vs′ buffer′
     unfolding lineLimit
     served-finished n vs′ buffer′ r w f fr z =
         let seen = rw line-before at (c .seen) in

@@ -49,7 +49,7 @@ lastValues (c ∷ cs) vs = lastValues cs (c .values)
 unfoldable pub replies : List Made → List ℕ → List (List ℕ)
 replies [] bs = []
 replies (c ∷ cs) bs =
-    cond (has 0x0D bs) (take (c .answer .length) (c .after) ∷ replies cs (drop (c .answer .consumed) bs)) (replies cs (drop (c .answer .consumed) bs))
+    cond (has 0x0D bs) (take (c .answer .sent) (c .after) ∷ replies cs (drop (c .answer .consumed) bs)) (replies cs (drop (c .answer .consumed) bs))
 
 unfoldable pub outcome : List Made → Port → List ℤ → List ℕ → Played
 outcome cs p vs bs = record { replies = replies cs bs; values = lastValues cs vs; port = view (lastPort cs p); refused = false }
@@ -87,9 +87,9 @@ module _ (t : List ℕ) (is-sound : sound t ≡ true) where
       let seen : view (c .answer .port) ≡ fresh = a .seen ∙ ap (λ x. x .port) s in
       let consumed : c .answer .consumed ≡ suc (indexOf 0x0D bs) = ap (λ x. x .consumed) told in
       let values : c .values ≡ f .values = ap (λ x. x .values) told in
-      let long : c .answer .length ≡ length (f .reply) = ap (λ x. x .length) told in
+      let long : c .answer .sent ≡ length (f .reply) = ap (λ x. x .sent) told in
       let after : c .after ≡ sets (c .buffer) 0 (f .reply) = ap (λ x. x .buffer) told in
-      let reply : take (c .answer .length) (c .after) ≡ f .reply =
+      let reply : take (c .answer .sent) (c .after) ≡ f .reply =
       rw (long, after) (written-first (c .buffer) (f .reply) (omega (arith, reply-fits t vs v is-sound r))) in
       let right : Right t (c .values) = rw values (finish-keeps (answer t) (Right t) (keeps-right t is-sound) vs v (claim-join (view p) (before 0x0D bs)) r) in
       let next : feed (answer t) fresh (f .values) (drop (suc (indexOf 0x0D bs)) bs)

@@ -77,7 +77,7 @@ step-fits t vs v bs s r = go (has 0x0D bs) refl
 
 -- what an accepted call leaves: its reply in the reply buffer, the values, the port, and what it consumed
 pub record Made (t : List ℕ) (vs : List ℤ) (p : Port) (bs buffer : List ℕ) (c : Called) (vs′ : List ℤ) (buffer′ : List ℕ) : Type 0 where
-  pub reply : Wrote buffer 0 (step (answer t) vs (view p) bs .reply) (c .length) buffer′
+  pub reply : Wrote buffer 0 (step (answer t) vs (view p) bs .reply) (c .sent) buffer′
   pub values : vs′ ≡ step (answer t) vs (view p) bs .values
   pub seen : view (c .port) ≡ step (answer t) vs (view p) bs .port
   pub few : c .port .len ≤ 64
@@ -91,7 +91,7 @@ made t vs p bs buffer c vs′ buffer′ s r h k a =
     let handed : Handed 0 p (step (answer t) vs (view p) bs .port) (c .port) = rw z at (a .handed) in
     let told = rw z at (a .told) in
     record {
-      reply = record { past = ap (λ x. x .length) told ∙ sym (zero-add (length (step (answer t) vs (view p) bs .reply))); bytes = ap (λ x. x .buffer) told };
+      reply = record { past = ap (λ x. x .sent) told ∙ sym (zero-add (length (step (answer t) vs (view p) bs .reply))); bytes = ap (λ x. x .buffer) told };
       values = ap (λ x. x .values) told;
       seen = handed .0;
       few = handed .1;

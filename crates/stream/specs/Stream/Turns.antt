@@ -84,10 +84,10 @@ module _ (t : List ℕ) (vs : List ℤ) (p : Port) (bs out : List ℕ) where
           let enough : 64 ≤ length (take (length out′ - n) (drop n out′)) = rw (part-to-end out′ n, length-drop n out′) left in
           made t vs′ q (drop at bs) (take (length out′ - n) (drop n out′)) c vs″ part (h .sounds) (h .right) enough (h .few) (rw (part-to-end bs at) at a)
 
-      wrote : Wrote out′ n (step (answer t) vs′ (view q) (drop at bs) .reply) (n + c .length) (putMid n (length out′ - n) out′ part)
+      wrote : Wrote out′ n (step (answer t) vs′ (view q) (drop at bs) .reply) (n + c .sent) (putMid n (length out′ - n) out′ part)
       wrote =
           let fits = step-fits t vs′ (view q) (drop at bs) (h .sounds) (h .right) in
-          lent-wrote out′ part n (c .length) (step (answer t) vs′ (view q) (drop at bs) .reply) (omega (arith, serving-within)) (done .reply)
+          lent-wrote out′ part n (c .sent) (step (answer t) vs′ (view q) (drop at bs) .reply) (omega (arith, serving-within)) (done .reply)
 
       -- the call, fed byte by byte to what the calls before left
       fed : Once (flow t vs′ q (take (c .consumed) (drop at bs))) (step (answer t) vs′ (view q) (drop at bs))
@@ -112,18 +112,18 @@ module _ (t : List ℕ) (vs : List ℤ) (p : Port) (bs out : List ℕ) where
 
       rest-next : at < length bs
           → consumes (length bs) t vs (view p) bs (length out)
-          ≡ at + c .consumed + consumes (length bs - (at + c .consumed)) t vs″ (view (c .port)) (drop (at + c .consumed) bs) (length out - (n + c .length))
+          ≡ at + c .consumed + consumes (length bs - (at + c .consumed)) t vs″ (view (c .port)) (drop (at + c .consumed) bs) (length out - (n + c .sent))
       rest-next l =
           let v = view q in
           let long = length-drop at bs in
           let m = one-more t vs′ v (drop at bs) (length out - n) (rw long (omega arith)) (omega (arith, h .long)) in
-          let told : c .length ≡ length (step (answer t) vs′ v (drop at bs) .reply) = done .reply .past ∙ zero-add (length (step (answer t) vs′ v (drop at bs) .reply)) in
+          let told : c .sent ≡ length (step (answer t) vs′ v (drop at bs) .reply) = done .reply .past ∙ zero-add (length (step (answer t) vs′ v (drop at bs) .reply)) in
           let fuel : length bs - (at + c .consumed) ≡ length bs - at - c .consumed = omega arith in
-          let left : length out - (n + c .length) ≡ length out - n - c .length = omega arith in
+          let left : length out - (n + c .sent) ≡ length out - n - c .sent = omega arith in
           let whole = h .rest ∙ ap (λ (k : ℕ). at + k) (rw long at m) in
           rw (fuel, left, ← (drop-drop (c .consumed) at bs), told, done .consumed, done .values, done .seen, add-assoc at (step (answer t) vs′ v (drop at bs) .consumed)) whole
 
-      pub serving-next : at < length bs → Serving t vs p bs out vs″ (c .port) (at + c .consumed) (n + c .length) (putMid n (length out′ - n) out′ part)
+      pub serving-next : at < length bs → Serving t vs p bs out vs″ (c .port) (at + c .consumed) (n + c .sent) (putMid n (length out′ - n) out′ part)
       unfolding followed
       serving-next l =
           let f = flow-more t vs p bs at vs′ q (h .values) (h .seen) (c .consumed) in
@@ -149,7 +149,7 @@ module _ (t : List ℕ) (vs : List ℤ) (p : Port) (bs out : List ℕ) where
       pub serving-at : Fits w64 (at + c .consumed)
       serving-at = record { fits = omega (arith, most, h .within, h .given-fits) }
 
-      pub serving-end : Fits w64 (n + c .length)
+      pub serving-end : Fits w64 (n + c .sent)
       serving-end =
           let fits = step-fits t vs′ (view q) (drop at bs) (h .sounds) (h .right) in
           let r-past = done .reply .past in
@@ -166,12 +166,12 @@ module _ (t : List ℕ) (vs : List ℤ) (p : Port) (bs out : List ℕ) where
         let z = no-room t (length bs - at) vs′ (view q) (drop at bs) (length out - n) (omega (arith, h .long)) in
         sym (h .rest ∙ rw z (omega arith))
 
-    pub served-all : length bs ≤ at → Serves t vs p bs out (record { port = q; consumed = at; length = n }) vs′ out′
+    pub served-all : length bs ≤ at → Serves t vs p bs out (record { port = q; consumed = at; sent = n }) vs′ out′
     unfolding lineLimit
     served-all l =
         record { within = h .within; room = h .room; replies = h .replies; values = h .values; seen = h .seen; few = h .few; consumed = nothing-after l }
 
-    pub served-full : length out′ - n < 64 → Serves t vs p bs out (record { port = q; consumed = at; length = n }) vs′ out′
+    pub served-full : length out′ - n < 64 → Serves t vs p bs out (record { port = q; consumed = at; sent = n }) vs′ out′
     unfolding lineLimit replyLimit
     served-full l =
         record { within = h .within; room = h .room; replies = h .replies; values = h .values; seen = h .seen; few = h .few; consumed = nothing-fits l }
