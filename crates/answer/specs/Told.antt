@@ -19,14 +19,14 @@ use Rattle.row.specs.declared.Kind.{Kind}
 use Rattle.label.specs.declared.Bearer.the-variants.{Only}
 use Rattle.parameter.specs.declared.Parameter.{Parameter}
 use Rattle.parameter.specs.declared.ParameterFound.the-variants.{At}
-use Rattle.line.specs.Value.{readKind}
+use Rattle.value_text.specs.Value.{readKind}
 use Rattle.answer.specs.Said.Texts.{reply-back, reply-short, reply-lacks}
 use Rattle.meaning.specs.Meaning.{meaning}
 use Rattle.meaning.specs.Meaning.Laws.{puts-back}
 use Rattle.name.specs.Name.{name}
 use Rattle.reply.specs.Reply.{replyText, getReply}
 use Rattle.answer.specs.Said.Naming.{Reached, reached, naming, Parts, parts-put, reached-sized, naming-short, naming-parts, rest, naming-rest, rest-no-return, verb-no-return}
-use Rattle.line.specs.declared.value.ValueText.the-variants.{Value}
+use Rattle.value_text.specs.declared.ValueText.the-variants.{Value}
 use Rattle.meaning.specs.declared.Meaning.the-variants.{Put}
 
 -- a reply as a set line: `SA` for its first two bytes, and without its last one

@@ -15,12 +15,13 @@ use Rattle.text.specs.Number.{numberForm, readNumber}
 use Rattle.text.specs.Switch.{switchLetter, readSwitch, switchText}
 use Rattle.catalogue.specs.Catalogue.{minus, level, switch, number, catalogue, rowsIn, rowsOf}
 use Rattle.row.specs.Row.{permitted, sameIndices}
-use Rattle.room.specs.Table.{bodyLength, recordLimit, modulesFrom, modules}
+use Rattle.room.specs.Table.{recordLimit, modulesFrom, modules}
+use Rattle.body.specs.Body.{bodyLength}
 use Rattle.label.specs.Label.{label, same, bearersIn, exactlyOne, bearer}
 use Rattle.parameter.specs.Parameters.{numbered, parametersOf, place, withIndices, named}
 use Rattle.shape.specs.Shape.{lineLimit, isSet, isGet, opening, firstFrom, closing, equals, getShape, setShape, quoted, shape, part}
-use Rattle.line.specs.IndexPart.{oneGroup, twoGroups, groups, readIndices}
-use Rattle.line.specs.Value.{ofLevel, ofNumber, ofSwitch, readKind, onlyPermitted, readValue}
+use Rattle.index_part.specs.IndexPart.{oneGroup, twoGroups, groups, readIndices}
+use Rattle.value_text.specs.Value.{ofLevel, ofNumber, ofSwitch, readKind, onlyPermitted, readValue}
 use Rattle.meaning.specs.Meaning.{indexed, inModule, inRoom, putOf, getOf, setOf, ofShape, meaning}
 use Rattle.name.specs.Name.{indexText, name}
 use Rattle.reply.specs.Reply.{ack, nak, replyText, getReply}

@@ -7,10 +7,10 @@ use borrow.Author.Tests.{eq-eqb, ne-eqb}
 use lib.Dec.{eqb}
 use lib.ListN.{length}
 use Rattle.demand.specs.Demand.{Restores, tells}
-use Rattle.demand.specs.Listing.{Told, restore}
+use Rattle.listing.specs.Listing.{Told, restore}
 use Rattle.wish.specs.Target.{Wish}
 use Rattle.demand.specs.declared.Restored.{Restored}
-use Rattle.lent.specs.Told.{misLent}
+use Rattle.told.specs.Told.{misLent}
 
 -- the number, and what the call leaves in the counts and in the list buffer
 pub record RestoreAnswer : Type 0 where

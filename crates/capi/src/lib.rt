@@ -1,12 +1,12 @@
 // The library's calls for C: each is thin over the proved library, and none asks anything of its caller.
 use lent::port_lent;
-use lent::tell_three;
-use lent::tell_two;
 use log::LogPart;
 use log::log_part;
 use port_call::call_port;
 use restore::restore;
 use room::table::check;
+use told::tell_three;
+use told::tell_two;
 ghost use mathlib.Core.Path.{_≡_};
 ghost use Rattle.room.specs.Table.{tableNumber};
 ghost use Rattle.capi.specs.Log.{logAnswer, logTells};

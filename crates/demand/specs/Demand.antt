@@ -10,22 +10,13 @@ use lib.ListN.{length, take, replicate}
 use Rattle.text.specs.Byte.{isByte}
 use Rattle.text.specs.Every.{every}
 use Rattle.parameter.specs.Parameters.{parameters}
-use Rattle.room.specs.Table.{sound}
-use Rattle.values.specs.Values.{valuesSound}
 use Rattle.reply.specs.Reply.{ack}
 use Rattle.serial_port.specs.Port.{fresh}
-use Rattle.serial_port.specs.Call.{replyLimit}
+use Rattle.refusal.specs.Refusal.{replyLimit}
 use Rattle.serial_port.specs.Play.{play}
-use Rattle.wish.specs.Target.{Wish, selectionRight, wantedRight, target, differing}
-use Rattle.demand.specs.Listing.{Told, restore}
+use Rattle.wish.specs.Target.{Wish, target, differing}
+use Rattle.listing.specs.Listing.{Admitted, Told, restore}
 use Rattle.demand.specs.declared.Restored.{Restored}
-
--- 1, 2, 5 and 6 do not apply
-pub record Admitted (w : Wish) : Type 0 where
-  pub table : sound (w .table) ≡ true
-  pub present : valuesSound (w .table) (w .present) ≡ true
-  pub selection : selectionRight (w .table) (w .selection) ≡ true
-  pub wanted : wantedRight (w .table) (w .selection) (w .wanted) ≡ true
 
 -- played with a reply buffer of `replyRooms n` bytes for call n, it leaves chosen modules as wanted and every other parameter as it was
 pub record Fulfils (w : Wish) (replyRooms : ℕ → ℕ) (bs : List ℕ) : Type 0 where

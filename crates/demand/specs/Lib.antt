@@ -1,5 +1,5 @@
--- The restore list, and demand 3: it is the shortest byte sequence that fulfils the wish.
+-- Demand 3: the restore list is the shortest byte sequence that fulfils the wish.
 pub mod Lines
-pub mod Listing
+pub mod Played
 pub mod Demand
 pub mod Worked

@@ -14,7 +14,8 @@ use Rattle.text.specs.Switch.{switchText}
 use Rattle.catalogue.specs.Catalogue.{minus, level, switch, number, catalogue, known, rowsIn, rowsOf}
 use Rattle.text.specs.Every.{every, every-append, every-both}
 use Rattle.row.specs.Row.{permitted}
-use Rattle.room.specs.Table.{bodyLength, bodySound, recordsSound, recordLimit, sound, modulesFrom, modules}
+use Rattle.room.specs.Table.{recordsSound, recordLimit, sound, modulesFrom, modules}
+use Rattle.body.specs.Body.{bodyLength, bodySound}
 use Rattle.field.specs.Field.{labelByte, labelRight, isZero, fieldSound}
 use Rattle.label.specs.Label.{label, same, bearersIn, exactlyOne, bearer}
 use Rattle.parameter.specs.Parameters.{numbered, parametersOf, parametersIn, parameters}
@@ -24,7 +25,7 @@ use Rattle.say.specs.Say.{setText, say}
 use Rattle.answer.specs.Worked as reading
 use Rattle.answer.specs.Worked.{oneByteRecord, tableA, zeros, bytes}
 use Rattle.wish.specs.Target.{atMostOne, selectionRight, chosen, chosenPermitted, wantedRight, targetOf, target}
-use Rattle.demand.specs.Listing.{changesOf, changes, lineOf, listing, borneOnce, reachable, allReachable, wishNumber, testNumber, listNumber, firstOf, restoreNumber, Told, tell, restore}
+use Rattle.listing.specs.Listing.{changesOf, changes, lineOf, listing, borneOnce, reachable, allReachable, wishNumber, testNumber, listNumber, firstOf, restoreNumber, Told, tell, restore}
 
 -- a restore call: the modules chosen, the wanted values, and the buffer's length; what it tells, and the lines that it writes
 pub record Case : Type 0 where

@@ -1,8 +1,8 @@
 // Which module alone bears a text, and how long a label is.
+use body::body_length;
 use catalogue::row_count;
 use field::label_right;
 use room::table::Module;
-use room::table::body_length;
 use text::cut::find;
 ghost use mathlib.Core.Bool.{true};
 ghost use mathlib.Core.Path.{_≡_};

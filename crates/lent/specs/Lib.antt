@@ -1,3 +1,2 @@
--- What C lends: the port as bytes, and the numbers that are told.
-pub mod Told
+-- What C lends: the port as bytes.
 pub mod Port

@@ -12,9 +12,10 @@ use lib.ListN.{length, getD, drop}
 use Rattle.answer.specs.Answer.{answer}
 use Rattle.shape.specs.Shape.{lineLimit}
 use Rattle.serial_port.specs.Port.{View, view}
-use Rattle.serial_port.specs.Call.{Told, call, callNumber, step}
+use Rattle.serial_port.specs.Call.{Told, call, step}
+use Rattle.refusal.specs.Refusal.{callNumber}
 use Rattle.serial_port.specs.declared.port.Port.{Port}
-use Rattle.lent.specs.Told.{misLent}
+use Rattle.told.specs.Told.{misLent}
 
 -- the port that 66 bytes say: how many bytes are held, overrun (0 or 1), and the held bytes with whatever follows them
 unfoldable pub portOf : List ℕ → Port

@@ -1,8 +1,7 @@
-// What C lends: the port as 66 bytes, and the counts that a call tells.
+// What C lends: the port as 66 bytes.
 use serial_port::port::Port;
 use written::put_bytes;
 ghost use mathlib.Core.Bool.{cond};
-ghost use mathlib.Core.List.{[], _∷_};
 ghost use mathlib.Core.Path.{_≡_};
 ghost use lib.ListN.{length};
 ghost use Prim.Native.Nat.{_≤_};
@@ -58,24 +57,4 @@ pub fn store(port: &mut [u8], q: Port)
     port[0] = q.len as u8;
     port[1] = overrun_byte(q.overrun);
     put_bytes(port, 2, &held);
-}
-
-// Tells two numbers.
-pub fn tell_two(told: &mut [u64], first: u64, second: u64)
-    requires { ⌜ length (now told) ≡ 2 ⌝ }
-    ensures { λ _. ⌜ now (told .exit) ≡ first ∷ second ∷ [] ⌝ }
-{
-    told[0] = first;
-    told[1] = second;
-}
-
-// Tells the part for the log, where it starts and its size, and answers 0.
-pub fn tell_three(told: &mut [u64], part: u64, start: u64, size: u64) -> u8
-    requires { ⌜ length (now told) ≡ 3 ⌝ }
-    ensures { λ r. ⌜ (r ≡ 0) × (now (told .exit) ≡ part ∷ start ∷ size ∷ []) ⌝ }
-{
-    told[0] = part;
-    told[1] = start;
-    told[2] = size;
-    0
 }

@@ -1,10 +1,10 @@
 // Writing the restore list: the lines one behind the other, each into what is left of the buffer.
+use body::body_length;
 use catalogue::row_count;
 use catalogue_row::row_of;
 use label::label_length;
 use parameter::Parameter;
 use room::table::Module;
-use room::table::body_length;
 use say::put_say_line;
 ghost use mathlib.Core.Bool.{true};
 ghost use mathlib.Core.List.{[], _∷_, _++_};
@@ -15,8 +15,7 @@ ghost use Rattle.catalogue.specs.Catalogue.{known, numbers, rowsOf};
 ghost use Rattle.label.specs.Label.{label};
 ghost use Rattle.written.specs.Written.{Wrote};
 ghost use Rattle.say.specs.Say.{say};
-ghost use Rattle.demand.specs.Demand.{Admitted};
-ghost use Rattle.demand.specs.Listing.{changes, listing};
+ghost use Rattle.listing.specs.Listing.{Admitted, changes, listing};
 ghost use Rattle.measure.specs.Measuring.{Standing, moduleChanges, rowChanges};
 
 // One set line with its 0D, put down at a place: what is left of the buffer is lent on.

@@ -1,16 +1,16 @@
 // What a line means: the first code that applies, or the parameter that it names.
+use index_part::IndexPart;
+use index_part::read_indices;
 use label::Bearer;
 use label::find_bearer;
-use line::index::IndexPart;
-use line::index::read_indices;
-use line::value::ValueText;
-use line::value::read_value;
 use parameter::Parameter;
 use parameter::ParameterFound;
 use parameter::named;
 use room::table::Module;
 use shape::Shape;
 use shape::shape_of;
+use value_text::ValueText;
+use value_text::read_value;
 ghost use mathlib.Core.Bool.{true};
 ghost use mathlib.Core.Path.{_≡_};
 ghost use lib.IntN.{pos};
@@ -21,11 +21,11 @@ ghost use Rattle.label.specs.Label.{bearer};
 ghost use Rattle.parameter.specs.Parameters.{place};
 ghost use Rattle.room.specs.Table.{sound};
 ghost use Rattle.values.specs.Values.{valuesSound};
-ghost use Rattle.line.specs.IndexPart.{readIndices};
+ghost use Rattle.index_part.specs.IndexPart.{readIndices};
 ghost use Rattle.meaning.specs.Meaning.{getOf, inRoom, indexed, meaning, ofShape, putOf};
 ghost use Rattle.meaning.specs.Meaning.Reading.{Holds, aim};
 ghost use Rattle.shape.specs.Shape.{part};
-ghost use Rattle.line.specs.Value.{readValue};
+ghost use Rattle.value_text.specs.Value.{readValue};
 ghost use Rattle.shape.specs.declared.Shape.the-variants as shape;
 
 // A code that the line is answered with, a parameter to tell, or a parameter and the value it is set to.

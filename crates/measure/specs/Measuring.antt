@@ -20,7 +20,7 @@ use Rattle.catalogue.specs.Catalogue.{known, rowsOf}
 use Rattle.parameter.specs.Parameters.{parametersOf}
 use Rattle.room.specs.Table.{sound}
 use Rattle.room.specs.declared.table.Module.{Module}
-use Rattle.demand.specs.Listing.{Change, changesOf, listing, allReachable}
+use Rattle.listing.specs.Listing.{Change, changesOf, listing, allReachable}
 use Rattle.measure.specs.declared.Measured.{Measured}
 use Rattle.measure.specs.declared.Measured.the-variants.{Within, Beyond}
 

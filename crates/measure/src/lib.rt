@@ -1,4 +1,5 @@
 // How long the restore list is, and whether every wanted change is within reach.
+use body::body_length;
 use catalogue::row_count;
 use catalogue_row::row_of;
 use label::Bearer;
@@ -6,7 +7,6 @@ use label::find_bearer;
 use label::label_length;
 use parameter::Parameter;
 use room::table::Module;
-use room::table::body_length;
 use say::say_line_length;
 ghost use mathlib.Core.Bool.{true};
 ghost use mathlib.Core.Path.{_≡_};
@@ -15,8 +15,7 @@ ghost use lib.ListN.{length};
 ghost use Rattle.catalogue.specs.Catalogue.{known, numbers, rowsOf};
 ghost use Rattle.label.specs.Label.{bearer, label};
 ghost use Rattle.room.specs.Table.{sound};
-ghost use Rattle.demand.specs.Demand.{Admitted};
-ghost use Rattle.demand.specs.Listing.{borneOnce, changes};
+ghost use Rattle.listing.specs.Listing.{Admitted, borneOnce, changes};
 ghost use Rattle.measure.specs.Measuring.{Measures, Settles, Standing, measured, moduleChanges, rowChanges, valuesOf};
 
 // The bytes and the lines of the list, or that a wanted change is beyond reach.

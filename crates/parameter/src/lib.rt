@@ -1,8 +1,8 @@
 // Parameters: the rows of the modules.
+use body::body_length;
 use catalogue::row_count;
 use catalogue_row::row_of;
 use room::table::Module;
-use room::table::body_length;
 use row::Indices;
 use row::Row;
 use row::compare::same_indices;

@@ -8,8 +8,9 @@ use lib.IntN.{ℤ}
 use lib.ListN.{length, take, drop, length-append}
 use lib.Seq.{take-at}
 use Rattle.room.specs.Table.{sound}
-use Rattle.values.specs.Values.{Started, starts, valuesSound}
-use Rattle.values.specs.Values.Right.{starts-few, starts-right}
+use Rattle.values.specs.Values.{valuesSound}
+use Rattle.starts.specs.Starts.{Started, starts}
+use Rattle.starts.specs.Starts.Right.{starts-few, starts-right}
 use Rattle.text.specs.Part.{part-counts}
 use Rattle.text.specs.Every.{test-held}
 

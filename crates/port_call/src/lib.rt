@@ -1,7 +1,7 @@
 // The port call over what C lends.
 use lent::port_of;
 use lent::store;
-use lent::tell_two;
+use told::tell_two;
 ghost use mathlib.Core.Bool.{true};
 ghost use mathlib.Core.Path.{_≡_};
 ghost use Rattle.lent.specs.Port.{PortCalled, portLent};

@@ -8,10 +8,10 @@ use borrow.Author.Tests.{le-leb, lt-leb}
 use lib.IntN.{ℤ}
 use lib.ListN.{length}
 use Rattle.written.specs.Written.{Wrote}
-use Rattle.demand.specs.Listing.{allReachable, changes, listing, restoreNumber, testNumber}
-use Rattle.demand.specs.Listing.Numbers.{number-list}
-use Rattle.demand.specs.Demand.{Admitted, Restores}
-use Rattle.demand.specs.Demand.Laws.{test-admits}
+use Rattle.listing.specs.Listing.{Admitted, allReachable, changes, listing, restoreNumber, testNumber}
+use Rattle.listing.specs.Listing.Numbers.{number-list}
+use Rattle.demand.specs.Demand.{Restores}
+use Rattle.listing.specs.Listing.Numbers.{test-admits}
 use Rattle.restore.specs.Testing.{test-refuses}
 use Rattle.demand.specs.Demand.Rules.{returns-listed, returns-refused}
 use Rattle.measure.specs.Measuring.{measured, measuredNumber}
@@ -31,7 +31,7 @@ module _ (t : List ℕ) (vs : List ℤ) (selection : List ℕ) (ws : List ℤ) (
   module _ (a : Admitted (wishOf t vs selection ws)) (f : Measured) (g : f ≡ measured t (changes (wishOf t vs selection ws))) where
     listed : restoreNumber (wishOf t vs selection ws) (length buffer) ≡ measuredNumber f (length buffer)
     listed =
-        number-list (wishOf t vs selection ws) (length buffer) (a .table) (a .present) (a .selection) (a .wanted)
+        number-list (wishOf t vs selection ws) (length buffer) a
         ∙ number-told t (changes (wishOf t vs selection ws)) (length buffer) ∙ ap (λ m. measuredNumber m (length buffer)) (sym g)
 
     pub refuses-reach : (r : Restored) → f ≡ Beyond → r ≡ record { bytes = 0; lines = 0; number = 7 } → Restores (wishOf t vs selection ws) buffer r buffer

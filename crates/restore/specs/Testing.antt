@@ -9,7 +9,7 @@ use Rattle.text.specs.Every.{test-held}
 use Rattle.room.specs.Table.{sound}
 use Rattle.values.specs.Values.{valuesSound}
 use Rattle.wish.specs.Target.{Wish, selectionRight, wantedRight}
-use Rattle.demand.specs.Listing.{changes, firstOf, listNumber, restoreNumber, testNumber, wishNumber}
+use Rattle.listing.specs.Listing.{changes, firstOf, listNumber, restoreNumber, testNumber, wishNumber}
 use Rattle.measure.specs.Measuring.Walk.{wishOf}
 
 -- a test that fails gives the call its number

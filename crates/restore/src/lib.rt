@@ -12,8 +12,8 @@ ghost use Rattle.catalogue.specs.Catalogue.{numbers};
 ghost use mathlib.Core.Bool.{true};
 ghost use mathlib.Core.Path.{_≡_};
 ghost use Rattle.room.specs.Table.{sound};
-ghost use Rattle.demand.specs.Demand.{Admitted, Restores};
-ghost use Rattle.demand.specs.Listing.{testNumber, wishNumber};
+ghost use Rattle.demand.specs.Demand.{Restores};
+ghost use Rattle.listing.specs.Listing.{Admitted, testNumber, wishNumber};
 
 // What a refused call answers.
 fn refused(number: u8) -> Restored

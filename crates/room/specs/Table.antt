@@ -2,26 +2,16 @@
 pub mod Checked
 pub mod Modules
 pub mod Reached
-pub mod Rules
 pub mod Walk
 use mathlib.Core.Bool.{Bool, true, false, cond, _&&_}
 use mathlib.Core.List.{List, [], _∷_}
 use Prim.Native.Nat.{ℕ, zero, suc, _+_}
-use lib.Dec.{eqb}
 use lib.ListN.{length, take, drop}
-use Rattle.catalogue.specs.Catalogue.{known, rowsOf}
-use Rattle.field.specs.Field.{fieldSound}
+use Rattle.catalogue.specs.Catalogue.{rowsOf}
+use Rattle.body.specs.Body.{bodyLength, bodySound}
 use Rattle.room.specs.declared.table.Module.{Module}
 use Rattle.room.specs.declared.table.ModuleFound.{ModuleFound}
 use Rattle.room.specs.declared.table.ModuleFound.the-variants.{At, Nothing}
-
--- how long a kind's body is
-unfoldable pub bodyLength : ℕ → ℕ
-bodyLength kind = 32
-
--- a kind's body: the label's field
-unfoldable pub bodySound : ℕ → List ℕ → Bool
-bodySound kind body = known kind && eqb (length body) (bodyLength kind) && fieldSound body
 
 -- at most `left` records, and nothing else
 unfoldable pub recordsSound : (left : ℕ) → List ℕ → Bool

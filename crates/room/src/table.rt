@@ -1,10 +1,10 @@
 // The module table.
+use body::body_length;
+use body::body_sound;
 use catalogue::row_count;
-use field::field_sound;
 ghost use mathlib.Core.Bool.{true};
 ghost use mathlib.Core.Path.{_≡_};
-ghost use Rattle.catalogue.specs.Catalogue.{known};
-ghost use Rattle.room.specs.Table.{bodyLength, bodySound, moduleAt, modules, sound, tableNumber};
+ghost use Rattle.room.specs.Table.{moduleAt, modules, sound, tableNumber};
 
 // How many records a table may have.
 pub const MODULES: usize = 64;
@@ -21,36 +21,6 @@ pub struct Module {
 pub enum ModuleFound {
     At(Module),
     Nothing,
-}
-
-// Whether a byte is a module type.
-fn is_known(kind: u8) -> bool
-    ensures { λ r. ⌜ r ≡ known kind ⌝ }
-{
-    if kind < 1 {
-        return false;
-    }
-    kind <= 6
-}
-
-// How long a kind's body is.
-pub fn body_length(kind: u8) -> usize
-    ensures { λ r. ⌜ r ≡ bodyLength kind ⌝ }
-{
-    32
-}
-
-// Whether a body is sound for its kind.
-fn body_sound(kind: u8, body: &[u8]) -> bool
-    ensures { λ r. ⌜ r ≡ bodySound kind (now (body .entry)) ⌝ }
-{
-    if !is_known(kind) {
-        return false;
-    }
-    if body.len() != body_length(kind) {
-        return false;
-    }
-    field_sound(body)
 }
 
 // Whether a table is sound.

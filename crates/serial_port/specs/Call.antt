@@ -7,16 +7,14 @@ use mathlib.Core.Path.{_≡_}
 use mathlib.Core.Bool.{cond}
 use mathlib.Core.List.{List, []}
 use Prim.Native.Nat.{ℕ, zero, suc, _≤_}
-use lib.Dec.{leb}
 use lib.IntN.{ℤ}
 use lib.ListN.{length}
 use lib.Seq.{sets}
 use Rattle.text.specs.Cut.{has, indexOf, before}
-use Rattle.room.specs.Table.{sound}
-use Rattle.values.specs.Values.{valuesSound}
 use Rattle.shape.specs.Shape.{lineLimit}
 use Rattle.reply.specs.Reply.{nak}
 use Rattle.answer.specs.Answer.{Answer, answer}
+use Rattle.refusal.specs.Refusal.{callNumber}
 use Rattle.serial_port.specs.Port.{View, held, over, view, fresh, join}
 use Rattle.serial_port.specs.declared.port.Port.{Port}
 use Rattle.serial_port.specs.declared.port.Called.{Called}
@@ -51,16 +49,6 @@ step answer vs v bs =
     cond (has 0x0D bs)
     (replied (suc (indexOf 0x0D bs)) (finish answer vs (join v (before 0x0D bs))))
     (waiting vs (length bs) (join v bs))
-
--- how many bytes a reply buffer must have
-unfoldable pub replyLimit : ℕ
-replyLimit = 64
-
--- the lowest number that applies, 0 where none does: 1 the table is not sound, 2 the values are wrong,
--- 3 the reply buffer is short, 4 the port claims more than 64 bytes, overrun or not
-unfoldable pub callNumber : (table : List ℕ) → List ℤ → (replyRoom claimed : ℕ) → ℕ
-callNumber t vs replyRoom claimed =
-    cond (sound t) (cond (valuesSound t vs) (cond (leb replyLimit replyRoom) (cond (leb claimed lineLimit) 0 4) 3) 2) 1
 
 -- what a call tells, and what it leaves in the values and in the reply buffer
 pub record Told : Type 0 where

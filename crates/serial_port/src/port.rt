@@ -1,10 +1,9 @@
 // The port: it collects bytes into lines, and answers each line once.
 use answer::answer_line;
 use catalogue::all_rows;
+use refusal::call_number;
 use reply::put_nak;
-use room::table::is_sound;
 use text::cut::find;
-use values::are_sound;
 use written::put_bytes;
 ghost use mathlib.Core.Bool.{true};
 ghost use mathlib.Core.Path.{_≡_};
@@ -13,7 +12,7 @@ ghost use lib.ListN.{length};
 ghost use Rattle.catalogue.specs.Catalogue.{numbers};
 ghost use Rattle.room.specs.Table.{sound};
 ghost use Rattle.values.specs.Values.{valuesSound};
-ghost use Rattle.serial_port.specs.Call.{Answers, callNumber};
+ghost use Rattle.serial_port.specs.Call.{Answers};
 ghost use Rattle.serial_port.specs.Call.Finishing.{Finishes};
 ghost use Rattle.serial_port.specs.Port.{fresh, view};
 ghost use Rattle.serial_port.specs.Port.Collecting.{Collects};
@@ -33,37 +32,11 @@ pub struct Called {
     pub number: u8,
 }
 
-// The lowest number that a call is refused with, 0 where it is served: `room` bytes are there for the reply, and the port claims `claimed`.
-fn call_number(
-    table: &[u8],
-    rows: &[[i32; 8]; 50],
-    values: &[i64],
-    room: usize,
-    claimed: usize,
-) -> u8
-    requires { ⌜ now rows ≡ numbers ⌝ }
-    ensures { λ r. ⌜ r ≡ callNumber (now (table .entry)) (now (values .entry)) room claimed ⌝ }
-{
-    if !is_sound(table) {
-        return 1;
-    }
-    if !are_sound(table, rows, values) {
-        return 2;
-    }
-    if room < Port::REPLY {
-        return 3;
-    }
-    if claimed <= Port::HELD {
-        return 0;
-    }
-    4
-}
-
 impl Port {
     // How many bytes a port may hold, how many bytes a reply buffer must have, and how many modules a table may have.
-    pub const HELD: usize = 64;
+    pub const HELD: usize = refusal::HELD;
 
-    pub const REPLY: usize = 64;
+    pub const REPLY: usize = refusal::REPLY;
 
     pub const MODULES: usize = room::table::MODULES;
 

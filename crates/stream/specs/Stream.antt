@@ -15,7 +15,8 @@ use Rattle.written.specs.Written.{Wrote}
 use Rattle.shape.specs.Shape.{lineLimit}
 use Rattle.answer.specs.Answer.{answer}
 use Rattle.serial_port.specs.Port.{View, view}
-use Rattle.serial_port.specs.Call.{step, replyLimit}
+use Rattle.serial_port.specs.Call.{step}
+use Rattle.refusal.specs.Refusal.{replyLimit}
 use Rattle.serial_port.specs.Play.{Played, feed}
 use Rattle.serial_port.specs.declared.port.Port.{Port}
 use Rattle.stream.specs.declared.Served.{Served}

@@ -3,7 +3,6 @@ use serial_port::port::Port;
 ghost use mathlib.Core.Bool.{true};
 ghost use mathlib.Core.Path.{_≡_};
 ghost use Prim.Native.Nat.{_≤_};
-ghost use lib.ListN.{length};
 ghost use Rattle.catalogue.specs.Catalogue.{numbers};
 ghost use Rattle.room.specs.Table.{sound};
 ghost use Rattle.values.specs.Values.{valuesSound};

@@ -1,2 +1,2 @@
--- The value list: when it is sound, and what a program starts with.
+-- The value list: when it is sound.
 pub mod Values

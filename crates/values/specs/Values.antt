@@ -1,18 +1,16 @@
 -- The value list: one value for each parameter, in the parameters' order.
 pub mod Each
+pub mod Few
 pub mod Fitting
 pub mod Laws
-pub mod Right
-pub mod Starting
 pub mod Testing
 use mathlib.Core.Bool.{Bool, true, false, _&&_}
-use mathlib.Core.Path.{_≡_}
-use mathlib.Core.List.{List, [], _∷_, _++_}
+use mathlib.Core.List.{List, [], _∷_}
 use Prim.Native.Nat.{ℕ}
 use lib.Dec.{eqb}
 use lib.IntN.{ℤ, pos, negsuc}
-use lib.ListN.{drop, length}
-use Rattle.row.specs.Row.{permitted, start}
+use lib.ListN.{length}
+use Rattle.row.specs.Row.{permitted}
 use Rattle.parameter.specs.Parameters.{parameters}
 use Rattle.row.specs.declared.Row.{Row}
 use Rattle.parameter.specs.declared.Parameter.{Parameter}
@@ -39,16 +37,3 @@ equal (negsuc m) (negsuc n) = eqb m n
 -- as many values as parameters, and each is one that its row permits, whether or not a line may set it
 unfoldable pub valuesSound : List ℕ → List ℤ → Bool
 valuesSound t vs = eqb (length vs) (length (parameters t)) && eachPermitted (parameters t) vs
-
--- the values that a program starts with
-unfoldable pub startsOf : List Parameter → List ℤ
-startsOf [] = []
-startsOf (p ∷ ps) = start (p .row) ∷ startsOf ps
-
-unfoldable pub starts : List ℕ → List ℤ
-starts t = startsOf (parameters t)
-
--- a list after the start values were put at its beginning: how many they are is the answer, and later entries stay
-pub record Started (t : List ℕ) (values : List ℤ) (answer : ℕ) (after : List ℤ) : Type 0 where
-  pub count : answer ≡ length (starts t)
-  pub list : after ≡ starts t ++ drop (length (starts t)) values

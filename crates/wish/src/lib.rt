@@ -1,6 +1,6 @@
 // The wish: whether the selection and the wanted values are right for the table.
+use body::body_length;
 use catalogue::row_count;
-use room::table::body_length;
 use values::module_fits;
 ghost use mathlib.Core.Bool.{not, true, _||_};
 ghost use mathlib.Core.Path.{_≡_};

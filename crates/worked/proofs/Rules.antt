@@ -7,8 +7,8 @@ use lib.IntN.{ℤ}
 use lib.ListN.{length}
 use Rattle.parameter.specs.Parameters.{parameters}
 use Rattle.text.specs.Every.{test-held}
-use Rattle.values.specs.Values.{starts}
-use Rattle.values.specs.Values.Starting.{length-starts}
+use Rattle.starts.specs.Starts.{starts}
+use Rattle.starts.specs.Starts.Filling.{length-starts}
 
 pub starts-room : (t : List ℕ) (vs : List ℤ) (n : ℕ) → n ≡ length (parameters t) → n ≤ length vs → length (starts t) ≤ length vs
 starts-room t vs n e h = omega (arith, length-starts t)

@@ -3,8 +3,8 @@ use catalogue::all_rows;
 use parameter::parameter_count;
 use room::table::is_sound;
 use serial_port::port::Port;
+use starts::fill_starts;
 use text::cut::find;
-use values::fill_starts;
 
 // How many lines were played, and the number of the first wrong answer, from 1, or 0.
 pub struct Tally {

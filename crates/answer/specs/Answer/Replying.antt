@@ -26,9 +26,9 @@ use Rattle.parameter.specs.declared.ParameterFound.the-variants.{At, Nothing}
 use Rattle.shape.specs.Shape.{part, shape}
 use Rattle.shape.specs.declared.Shape.{Shape}
 use Rattle.shape.specs.declared.Shape.the-variants as shape
-use Rattle.line.specs.declared.index.IndexPart.{IndexPart}
-use Rattle.line.specs.declared.value.ValueText.{ValueText}
-use Rattle.line.specs.declared.value.ValueText.the-variants as value
+use Rattle.index_part.specs.declared.IndexPart.{IndexPart}
+use Rattle.value_text.specs.declared.ValueText.{ValueText}
+use Rattle.value_text.specs.declared.ValueText.the-variants as value
 use Rattle.answer.specs.Answer.{Answers, act}
 use Rattle.answer.specs.Answer.Laws.{answered, gets-place, puts-place}
 use Rattle.answer.specs.Answer.Replies.{gets-label, reply-limit}

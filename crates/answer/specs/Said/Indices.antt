@@ -19,9 +19,9 @@ use Rattle.text.specs.Every.{both-left, both-right}
 use Rattle.catalogue.specs.Catalogue.Sized.{sizedIndices}
 use Rattle.row.specs.declared.Indices.{Indices}
 use Rattle.row.specs.declared.Indices.the-variants.{OneGroup, TwoGroups}
-use Rattle.line.specs.IndexPart.{oneGroup, twoGroups, groups, readIndices}
+use Rattle.index_part.specs.IndexPart.{oneGroup, twoGroups, groups, readIndices}
 use Rattle.name.specs.Name.{indexText}
-use Rattle.line.specs.declared.index.IndexPart.the-variants.{Right, Wrong}
+use Rattle.index_part.specs.declared.IndexPart.the-variants.{Right, Wrong}
 
 wrong {ℓ} : {A : Type ℓ} (i : Indices) → Wrong ≡ Right i → A
 wrong i h = absurd (let z : _≡_ {A = ℕ} 0 1 = cc in omega arith)

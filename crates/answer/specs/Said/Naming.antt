@@ -26,9 +26,9 @@ use Rattle.parameter.specs.declared.Parameter.{Parameter}
 use Rattle.parameter.specs.declared.ParameterFound.the-variants.{At}
 use Rattle.shape.specs.Shape.{shape, part}
 use Rattle.shape.specs.Shape.Laws.{setLine, set-line-length, set-line-shape, set-line-label, set-line-indices, set-line-text}
-use Rattle.line.specs.IndexPart.{readIndices}
+use Rattle.index_part.specs.IndexPart.{readIndices}
 use Rattle.answer.specs.Said.Indices.{indices-back, indices-lack}
-use Rattle.line.specs.Value.Laws.{Valued}
+use Rattle.value_text.specs.Value.Laws.{Valued}
 use Rattle.meaning.specs.Meaning.Laws.{Names, Puts}
 use Rattle.name.specs.Name.{indexText}
 use Rattle.shape.specs.declared.Shape.the-variants as shape

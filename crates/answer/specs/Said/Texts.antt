@@ -29,9 +29,9 @@ use Rattle.row.specs.declared.Kind.{Kind}
 use Rattle.row.specs.declared.Kind.the-variants as kind
 use Rattle.reply.specs.Reply.{replyText}
 use Rattle.say.specs.Say.{setText}
-use Rattle.line.specs.Value.{ofLevel, ofNumber, ofSwitch, readKind}
-use Rattle.line.specs.Value.Laws.{wrong-value}
-use Rattle.line.specs.declared.value.ValueText.the-variants.{Value}
+use Rattle.value_text.specs.Value.{ofLevel, ofNumber, ofSwitch, readKind}
+use Rattle.value_text.specs.Value.Laws.{wrong-value}
+use Rattle.value_text.specs.declared.ValueText.the-variants.{Value}
 
 -- ---- what is written is read back
 

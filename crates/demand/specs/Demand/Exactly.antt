@@ -6,7 +6,7 @@ use Prim.Native.Nat.{ℕ, _≤_, _<_}
 use native.Mathlib.Omega.{arith}
 use lib.ListN.{length, take}
 use Rattle.wish.specs.Target.{Wish}
-use Rattle.demand.specs.Listing.{Told}
+use Rattle.listing.specs.Listing.{Told}
 use Rattle.demand.specs.Demand.{Fulfils, Shortest, Demanded, accepted, unreachable, no-room}
 
 -- a shortest list that fits the buffer, and one that does not

@@ -9,29 +9,27 @@ use borrow.Author.Tests.{leb-true, leb-false}
 use lib.Dec.{leb}
 use lib.IntN.{pos}
 use lib.ListN.{length, getD}
-use Rattle.room.specs.Table.{sound}
 use Rattle.parameter.specs.Parameters.{parameters}
-use Rattle.values.specs.Values.{valuesSound}
 use Rattle.answer.specs.Answer.{answer}
 use Rattle.serial_port.specs.Port.{fresh}
 use Rattle.serial_port.specs.Port.Laws.{fresh-few}
-use Rattle.serial_port.specs.Call.{replyLimit}
+use Rattle.refusal.specs.Refusal.{replyLimit}
 use Rattle.serial_port.specs.Call.Laws.{written-first}
 use Rattle.serial_port.specs.Play.{play, feed}
 use Rattle.serial_port.specs.Play.Kept.{feed-keeps, bound}
 use Rattle.serial_port.specs.Play.Laws.{Right, keeps-right, plays}
-use Rattle.wish.specs.Target.{Wish, selectionRight, wantedRight, target}
+use Rattle.wish.specs.Target.{Wish, target}
 use Rattle.wish.specs.Target.Laws.{target-right}
 use Rattle.demand.specs.Lines.{Lines}
 use Rattle.demand.specs.Lines.Promise.{promise}
 use Rattle.demand.specs.Lines.Reach.{Stays, keeps-unreachable}
 use Rattle.demand.specs.Lines.Price.{potential, lowers, price-reached, price-listing}
-use Rattle.demand.specs.Listing.{changes, listing, allReachable, wishNumber, testNumber, listNumber, tell, restore}
-use Rattle.demand.specs.Listing.Beyond.{beyond}
-use Rattle.demand.specs.Listing.Numbers.{number-list}
-use Rattle.demand.specs.Listing.Counted.{lines-differing}
-use Rattle.demand.specs.Listing.Played.{AllSayable, all-sayable, from-start, done, listing-bytes, play-listing}
-use Rattle.demand.specs.Demand.{Admitted, Fulfils, Shortest, Listed, Demanded, accepted, unreachable, no-room, DemandThree, tells, Restores}
+use Rattle.listing.specs.Listing.{Admitted, changes, listing, allReachable, listNumber, tell, restore}
+use Rattle.listing.specs.Listing.Beyond.{beyond}
+use Rattle.listing.specs.Listing.Numbers.{number-list}
+use Rattle.listing.specs.Listing.Counted.{lines-differing}
+use Rattle.demand.specs.Played.{AllSayable, all-sayable, from-start, done, listing-bytes, play-listing}
+use Rattle.demand.specs.Demand.{Fulfils, Shortest, Listed, Demanded, accepted, unreachable, no-room, DemandThree, tells, Restores}
 use Rattle.demand.specs.declared.Restored.{Restored}
 use Rattle.values.specs.Values.Laws.{values-many, values-each}
 
@@ -118,7 +116,7 @@ module _ (w : Wish) (lines : Lines (w .table)) (admitted : Admitted w) (replyRoo
   pub demanded : (buffer : List ℕ) → Demanded w replyRooms (length buffer) (restore w buffer)
   unfolding restore listNumber list
   demanded buffer =
-      rw (number-list w (length buffer) (admitted .table) (admitted .present) (admitted .selection) (admitted .wanted))
+      rw (number-list w (length buffer) admitted)
       (go (allReachable (w .table) (changes w)) (leb (length (list w)) (length buffer)) refl refl)
     where
       go : (r n : Bool) → allReachable (w .table) (changes w) ≡ r → leb (length (list w)) (length buffer) ≡ n
@@ -134,18 +132,3 @@ demand-three w buffer admitted replyRooms enough = demanded w (promise (w .table
 -- so the restore call's promise is kept once it tells and writes what it should
 pub restores : (w : Wish) (buffer : List ℕ) (r : Restored) (buffer′ : List ℕ) → tells r buffer′ ≡ restore w buffer → Restores w buffer r buffer′
 restores w buffer r buffer′ e = record { told = e; demand = rw e (demand-three w buffer) }
-
--- a wish that passes every test before the list is admitted
-pub test-admits : (w : Wish) → testNumber w ≡ 0 → Admitted w
-unfolding testNumber wishNumber
-test-admits w h =
-    go (sound (w .table)) (valuesSound (w .table) (w .present)) (selectionRight (w .table) (w .selection))
-    (wantedRight (w .table) (w .selection) (w .wanted)) refl refl refl refl
-  where
-    go : (a b c d : Bool) → sound (w .table) ≡ a → valuesSound (w .table) (w .present) ≡ b → selectionRight (w .table) (w .selection) ≡ c
-        → wantedRight (w .table) (w .selection) (w .wanted) ≡ d → Admitted w
-    go false b c d e f g i = absurd (let z : _≡_ {A = ℕ} 1 0 = rw e at h in omega arith)
-    go true false c d e f g i = absurd (let z : _≡_ {A = ℕ} 2 0 = rw (e, f) at h in omega arith)
-    go true true false d e f g i = absurd (let z : _≡_ {A = ℕ} 5 0 = rw (e, f, g) at h in omega arith)
-    go true true true false e f g i = absurd (let z : _≡_ {A = ℕ} 6 0 = rw (e, f, g, i) at h in omega arith)
-    go true true true true e f g i = record { table = e; present = f; selection = g; wanted = i }

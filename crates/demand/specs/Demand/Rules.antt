@@ -5,7 +5,7 @@ use Prim.Native.Nat.{ℕ, zero, suc}
 use lib.ListN.{length}
 use lib.Seq.{sets}
 use Rattle.wish.specs.Target.{Wish}
-use Rattle.demand.specs.Listing.{changes, listing, restoreNumber, tell, restore}
+use Rattle.listing.specs.Listing.{changes, listing, restoreNumber, tell, restore}
 use Rattle.demand.specs.Demand.{tells, Restores}
 use Rattle.demand.specs.Demand.Laws.{restores}
 

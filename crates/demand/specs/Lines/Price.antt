@@ -12,7 +12,7 @@ use Rattle.parameter.specs.declared.ParameterFound.the-variants.{At}
 use Rattle.shape.specs.Shape.{lineLimit}
 use Rattle.answer.specs.Answer.{answer}
 use Rattle.serial_port.specs.Play.Laws.{Right}
-use Rattle.demand.specs.Listing.{Change, changesOf, lineOf, listing}
+use Rattle.listing.specs.Listing.{Change, changesOf, lineOf, listing}
 use Rattle.demand.specs.Lines.{price, Effect, nothing, puts, Lines}
 use Rattle.values.specs.Values.{equal}
 use Rattle.values.specs.Values.Laws.{equal-refl, values-many, at-inside}

@@ -18,7 +18,7 @@ use Rattle.label.specs.declared.Bearer.the-variants.{Only, NotOne}
 use Rattle.answer.specs.Answer.{answer}
 use Rattle.answer.specs.Answer.Laws.{Settable}
 use Rattle.serial_port.specs.Play.Kept.{Keeps}
-use Rattle.demand.specs.Listing.{borneOnce, reachable}
+use Rattle.listing.specs.Listing.{borneOnce, reachable}
 use Rattle.demand.specs.Lines.{Effect, nothing, puts, Lines}
 
 -- the restore list's test says which parameters lines can set

@@ -13,8 +13,7 @@ use Rattle.label.specs.Label.{bearer, bearersIn, exactlyOne, label, same
 use Rattle.label.specs.Label.Match.{same-refl, same-true}
 use Rattle.room.specs.declared.table.Module.{Module}
 use Rattle.room.specs.declared.table.ModuleFound.the-variants.{At, Nothing}
-use Rattle.label.specs.declared.Bearer.{Bearer}
-use Rattle.label.specs.declared.Bearer.the-variants.{Only, NotOne}
+use Rattle.label.specs.declared.Bearer.the-variants.{Only}
 
 -- ---- one of the modules
 

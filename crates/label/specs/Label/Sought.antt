@@ -9,7 +9,8 @@ use lib.Dec.{eqb}
 use lib.ListN.{length, getD, take, drop, drop-of-length-le, length-take}
 use Rattle.text.specs.Cut.{before}
 use Rattle.catalogue.specs.Catalogue.{rowsOf}
-use Rattle.room.specs.Table.{bodyLength, sound}
+use Rattle.room.specs.Table.{sound}
+use Rattle.body.specs.Body.{bodyLength}
 use Rattle.field.specs.Field.{labelRight}
 use Rattle.room.specs.Table.Modules.{record-label, record-room}
 use Rattle.room.specs.Table.Walk.{Walk, modulesAt, modules-end, modules-next, modules-start, walk-induction, walk-next, walk-start}

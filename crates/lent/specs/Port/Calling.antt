@@ -11,13 +11,14 @@ use lib.ListN.{length}
 use Rattle.answer.specs.Answer.{answer}
 use Rattle.shape.specs.Shape.{lineLimit}
 use Rattle.serial_port.specs.Port.{View, view}
-use Rattle.serial_port.specs.Call.{Answers, Handed, Step, call, callNumber, step, tell, tells}
+use Rattle.serial_port.specs.Call.{Answers, Handed, Step, call, step, tell, tells}
+use Rattle.refusal.specs.Refusal.{callNumber}
 use Rattle.text.specs.Every.{test-held}
 use Rattle.serial_port.specs.declared.port.Port.{Port}
 use Rattle.serial_port.specs.declared.port.Called.{Called}
 use Rattle.lent.specs.Port.{Left, PortCalled, Stores, bytesOf, counted, portAnswer, portLent, portNumber, portOf, portTells}
 use Rattle.lent.specs.Port.Lending.{lent-facts}
-use Rattle.lent.specs.Told.{misLent}
+use Rattle.told.specs.Told.{misLent}
 
 -- ---- the stored port is seen as the port
 

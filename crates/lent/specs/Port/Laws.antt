@@ -7,9 +7,10 @@ use borrow.Author.Tests.{eq-eqb, le-leb}
 use lib.IntN.{ℤ}
 use lib.ListN.{length, getD, replicate}
 use Rattle.serial_port.specs.Port.{View, fresh, view}
-use Rattle.serial_port.specs.Call.{call, callNumber, tell}
+use Rattle.serial_port.specs.Call.{call, tell}
+use Rattle.refusal.specs.Refusal.{callNumber}
 use Rattle.lent.specs.Port.{Stores, counted, portAnswer, portLent, portOf, portTells}
-use Rattle.lent.specs.Told.{misLent}
+use Rattle.told.specs.Told.{misLent}
 
 -- 66 zero bytes are the fresh port
 pub zeros-fresh : view (portOf (replicate 66 0)) ≡ fresh

@@ -9,7 +9,7 @@ use Rattle.catalogue.specs.Catalogue.{rowsOf}
 use Rattle.written.specs.Written.{Wrote}
 use Rattle.written.specs.Written.Laws.{wrote-nothing}
 use Rattle.room.specs.declared.table.Module.{Module}
-use Rattle.demand.specs.Listing.{listing}
+use Rattle.listing.specs.Listing.{listing}
 use Rattle.measure.specs.Measuring.{moduleChanges, rowChanges}
 use Rattle.measure.specs.Measuring.Part.{own-part}
 

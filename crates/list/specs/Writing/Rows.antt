@@ -16,7 +16,7 @@ use Rattle.written.specs.Written.Laws.{wrote-join, wrote-length, wrote-nothing}
 use Rattle.parameter.specs.Parameters.Laws.{parameterOf}
 use Rattle.room.specs.declared.table.Module.{Module}
 use Rattle.say.specs.Say.{say}
-use Rattle.demand.specs.Listing.{Change, listing}
+use Rattle.listing.specs.Listing.{Change, listing}
 use Rattle.measure.specs.Measuring.{rowChanges}
 use Rattle.measure.specs.Measuring.Laws.{first-fits, listing-append, one-line}
 use Rattle.measure.specs.Measuring.RowWalk.{RowWalk, bits-differ, bits-equal, changeOf, row-inside, rows-all, rows-differ, rows-equal, rows-start}

@@ -9,11 +9,11 @@ use lib.ListN.{length, getD, length-append}
 use Rattle.catalogue.specs.Catalogue.{rowsOf}
 use Rattle.written.specs.Written.{Wrote}
 use Rattle.written.specs.Written.Laws.{wrote-join, wrote-length, wrote-nothing}
-use Rattle.room.specs.Table.{bodyLength, sound}
+use Rattle.room.specs.Table.{sound}
+use Rattle.body.specs.Body.{bodyLength}
 use Rattle.room.specs.Table.Walk.{Walk}
 use Rattle.parameter.specs.Parameters.Walk.{moduleHere}
-use Rattle.demand.specs.Listing.{Change, changes, listing}
-use Rattle.demand.specs.Demand.{Admitted}
+use Rattle.listing.specs.Listing.{Admitted, Change, changes, listing}
 use Rattle.measure.specs.Measuring.{Standing, moduleChanges}
 use Rattle.measure.specs.Measuring.Laws.{first-fits, listing-append}
 use Rattle.measure.specs.Measuring.Walk.{ChangeWalk, standing, walk-all, walk-changes, walk-none, wishOf}

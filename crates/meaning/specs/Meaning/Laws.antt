@@ -20,16 +20,16 @@ use Rattle.parameter.specs.declared.Parameter.{Parameter}
 use Rattle.parameter.specs.declared.ParameterFound.{ParameterFound}
 use Rattle.parameter.specs.declared.ParameterFound.the-variants.{At, Nothing}
 use Rattle.shape.specs.Shape.{shape, part}
-use Rattle.line.specs.IndexPart.{readIndices}
-use Rattle.line.specs.Value.{readValue}
-use Rattle.line.specs.Value.Laws.{Valued, value-told, value-back}
+use Rattle.index_part.specs.IndexPart.{readIndices}
+use Rattle.value_text.specs.Value.{readValue}
+use Rattle.value_text.specs.Value.Laws.{Valued, value-told, value-back}
 use Rattle.meaning.specs.Meaning.{indexed, Target, target, code, inModule, inRoom, putOf, getOf, setOf, ofShape, meaning}
 use Rattle.shape.specs.declared.Shape.{Shape}
 use Rattle.shape.specs.declared.Shape.the-variants as shape
-use Rattle.line.specs.declared.index.IndexPart.{IndexPart}
-use Rattle.line.specs.declared.index.IndexPart.the-variants as index
-use Rattle.line.specs.declared.value.ValueText.{ValueText}
-use Rattle.line.specs.declared.value.ValueText.the-variants as value
+use Rattle.index_part.specs.declared.IndexPart.{IndexPart}
+use Rattle.index_part.specs.declared.IndexPart.the-variants as index
+use Rattle.value_text.specs.declared.ValueText.{ValueText}
+use Rattle.value_text.specs.declared.ValueText.the-variants as value
 use Rattle.meaning.specs.declared.Meaning.the-variants.{Code, Get, Put}
 
 -- ---- a parameter named by a label and an index part

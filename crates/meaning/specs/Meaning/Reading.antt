@@ -25,20 +25,20 @@ use Rattle.parameter.specs.declared.ParameterFound.the-variants.{At, Nothing}
 use Rattle.shape.specs.Shape.{shape, part}
 use Rattle.shape.specs.Shape.Laws.{set-ordered}
 use Rattle.shape.specs.Shape.Reading.{get-ordered}
-use Rattle.line.specs.IndexPart.{readIndices}
-use Rattle.line.specs.Value.{readValue}
-use Rattle.line.specs.Value.Laws.{value-told}
-use Rattle.line.specs.Value.Reading.{permitted-bits}
+use Rattle.index_part.specs.IndexPart.{readIndices}
+use Rattle.value_text.specs.Value.{readValue}
+use Rattle.value_text.specs.Value.Laws.{value-told}
+use Rattle.value_text.specs.Value.Reading.{permitted-bits}
 use Rattle.meaning.specs.Meaning.{indexed, Target, target, code, inModule, inRoom, putOf, getOf, setOf, ofShape, meaning}
 use Rattle.meaning.specs.Meaning.Laws.{names-told, names-place}
 use Rattle.meaning.specs.declared.Target as declared
 use Rattle.meaning.specs.declared.Target.the-variants as aimed
 use Rattle.shape.specs.declared.Shape.{Shape}
 use Rattle.shape.specs.declared.Shape.the-variants as shape
-use Rattle.line.specs.declared.index.IndexPart.{IndexPart}
-use Rattle.line.specs.declared.index.IndexPart.the-variants as index
-use Rattle.line.specs.declared.value.ValueText.{ValueText}
-use Rattle.line.specs.declared.value.ValueText.the-variants as value
+use Rattle.index_part.specs.declared.IndexPart.{IndexPart}
+use Rattle.index_part.specs.declared.IndexPart.the-variants as index
+use Rattle.value_text.specs.declared.ValueText.{ValueText}
+use Rattle.value_text.specs.declared.ValueText.the-variants as value
 use Rattle.meaning.specs.declared.Meaning.{Meaning}
 use Rattle.meaning.specs.declared.Meaning.the-variants.{Code, Get, Put}
 

@@ -9,7 +9,7 @@ use Rattle.room.specs.declared.table.Module.{Module}
 use Rattle.label.specs.declared.Bearer.{Bearer}
 use Rattle.label.specs.declared.Bearer.the-variants.{Only, NotOne}
 use Rattle.label.specs.Label.Length.{label-part}
-use Rattle.demand.specs.Listing.{borneOnce}
+use Rattle.listing.specs.Listing.{borneOnce}
 
 module _ (t : List ℕ) (m : Module) (n : ℕ) (e : n ≡ length (label t m)) where
   module _ (f : Bearer) (g : f ≡ bearer t (take (m .place + 1 + n - (m .place + 1)) (drop (m .place + 1) t))) where

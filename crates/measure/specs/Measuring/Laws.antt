@@ -12,7 +12,7 @@ use Rattle.label.specs.Label.{bearer, label}
 use Rattle.parameter.specs.Parameters.{numbered, parametersOf}
 use Rattle.room.specs.declared.table.Module.{Module}
 use Rattle.say.specs.Say.{say}
-use Rattle.demand.specs.Listing.{Change, allReachable, borneOnce, changesOf, lineOf, listing, reachable}
+use Rattle.listing.specs.Listing.{Change, allReachable, borneOnce, changesOf, lineOf, listing, reachable}
 use Rattle.measure.specs.Measuring.{allSettable, rowChanges}
 use Rattle.values.specs.Values.{equal}
 

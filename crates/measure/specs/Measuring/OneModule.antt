@@ -9,7 +9,7 @@ use lib.IntN.{ℤ}
 use lib.ListN.{length, getD}
 use Rattle.label.specs.Label.{bearer, label}
 use Rattle.room.specs.declared.table.Module.{Module}
-use Rattle.demand.specs.Listing.{Change, allReachable, borneOnce, listing}
+use Rattle.listing.specs.Listing.{Change, allReachable, borneOnce, listing}
 use Rattle.measure.specs.Measuring.{Measures, Settles, allSettable, measured, measuredIf, moduleChanges, rowChanges, valuesOf}
 use Rattle.measure.specs.Measuring.Laws.{module-reached, module-shared, reachable-settable}
 use Rattle.measure.specs.Measuring.Told.{few-beyond, few-within, flag-beyond, flag-within}

@@ -16,7 +16,7 @@ use Rattle.parameter.specs.Parameters.{parametersOf}
 use Rattle.parameter.specs.Parameters.Laws.{parameterOf, parametersOf-cons}
 use Rattle.room.specs.declared.table.Module.{Module}
 use Rattle.parameter.specs.declared.Parameter.{Parameter}
-use Rattle.demand.specs.Listing.{Change, changesOf}
+use Rattle.listing.specs.Listing.{Change, changesOf}
 use Rattle.measure.specs.Measuring.{rowChanges}
 use Rattle.values.specs.Values.{equal}
 use Rattle.values.specs.Values.Laws.{equal-refl, equal-true}

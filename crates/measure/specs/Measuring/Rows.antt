@@ -17,7 +17,7 @@ use Rattle.row.specs.declared.Row.{Row}
 use Rattle.parameter.specs.Parameters.Laws.{parameterOf}
 use Rattle.room.specs.declared.table.Module.{Module}
 use Rattle.say.specs.Say.{say}
-use Rattle.demand.specs.Listing.{Change, listing}
+use Rattle.listing.specs.Listing.{Change, listing}
 use Rattle.measure.specs.Measuring.{Settles, allSettable, measuredIf, rowChanges}
 use Rattle.measure.specs.Measuring.Laws.{listing-append, one-line, settable-append}
 use Rattle.measure.specs.Measuring.RowWalk.{RowWalk, bits-differ, bits-equal, changeOf, row-inside, rows-all, rows-differ, rows-equal, rows-start}

@@ -6,7 +6,7 @@ use Prim.Native.Nat.{ℕ, _≤_}
 use native.Mathlib.Omega.{arith}
 use lib.Dec.{leb}
 use lib.ListN.{length}
-use Rattle.demand.specs.Listing.{Change, allReachable, listNumber, listing}
+use Rattle.listing.specs.Listing.{Change, allReachable, listNumber, listing}
 use Rattle.measure.specs.Measuring.{Few, measured, measuredIf, measuredNumber}
 use Rattle.measure.specs.declared.Measured.the-variants.{Within, Beyond}
 

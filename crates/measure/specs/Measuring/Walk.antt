@@ -13,7 +13,8 @@ use lib.Seq.{drop-drop}
 use Rattle.catalogue.specs.Catalogue.{rowsOf}
 use Rattle.text.specs.Every.{both-left}
 use Rattle.row.specs.declared.Row.{Row}
-use Rattle.room.specs.Table.{bodyLength, modules, sound}
+use Rattle.room.specs.Table.{modules, sound}
+use Rattle.body.specs.Body.{bodyLength}
 use Rattle.room.specs.Table.Walk.{walk-known, walk-numbered, walk-room}
 use Rattle.parameter.specs.Parameters.{numbered, parameters, parametersOf}
 use Rattle.parameter.specs.Parameters.Laws.{length-parametersOf}
@@ -22,8 +23,7 @@ use Rattle.room.specs.declared.table.Module.{Module}
 use Rattle.parameter.specs.declared.Parameter.{Parameter}
 use Rattle.wish.specs.Target.{Wish, chosen, chosenPermitted, target, targetOf, wantedRight}
 use Rattle.wish.specs.Target.Wanting.{selection-long}
-use Rattle.demand.specs.Listing.{Change, changes, changesOf}
-use Rattle.demand.specs.Demand.{Admitted}
+use Rattle.listing.specs.Listing.{Admitted, Change, changes, changesOf}
 use Rattle.measure.specs.Measuring.{Standing, moduleChanges, rowChanges, valuesOf}
 use Rattle.values.specs.Values.{equal}
 use Rattle.values.specs.Values.Laws.{equal-refl, values-many}

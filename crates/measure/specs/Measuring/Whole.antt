@@ -9,11 +9,11 @@ use lib.ListN.{length, getD, length-append}
 use mir.Syntax.{w64}
 use mir.Val.{Fits}
 use Rattle.catalogue.specs.Catalogue.{rowsOf}
-use Rattle.room.specs.Table.{bodyLength, sound}
+use Rattle.room.specs.Table.{sound}
+use Rattle.body.specs.Body.{bodyLength}
 use Rattle.room.specs.Table.Walk.{Walk, walk-few}
 use Rattle.parameter.specs.Parameters.Walk.{moduleHere}
-use Rattle.demand.specs.Listing.{Change, allReachable, changes, listing}
-use Rattle.demand.specs.Demand.{Admitted}
+use Rattle.listing.specs.Listing.{Admitted, Change, allReachable, changes, listing}
 use Rattle.measure.specs.Measuring.{Measures, Standing, measured, measuredIf, moduleChanges}
 use Rattle.measure.specs.Measuring.Laws.{listing-append, reachable-append}
 use Rattle.measure.specs.Measuring.Told.{beyond-told, within-told}

@@ -8,7 +8,8 @@ use lib.ListN.{length, drop}
 use Rattle.catalogue.specs.Catalogue.{rowsOf}
 use Rattle.parameter.specs.Parameters.{numbered, parametersOf, parametersIn, parameters, place, parameterAt}
 use Rattle.parameter.specs.Parameters.Laws.{length-parametersOf, parameter-late}
-use Rattle.room.specs.Table.{bodyLength, moduleAt, modules, modulesFrom, recordLimit}
+use Rattle.room.specs.Table.{moduleAt, modules, modulesFrom, recordLimit}
+use Rattle.body.specs.Body.{bodyLength}
 use Rattle.row.specs.declared.Row.{Row}
 use Rattle.room.specs.declared.table.Module.{Module}
 use Rattle.room.specs.declared.table.ModuleFound.the-variants as table

@@ -9,7 +9,8 @@ use Rattle.catalogue.specs.Catalogue.{rowsOf}
 use Rattle.catalogue.specs.Catalogue.Rules.{rowOf}
 use Rattle.parameter.specs.Parameters.{parameterAt, parameters, parametersIn, parametersOf}
 use Rattle.parameter.specs.Parameters.Laws.{length-parametersOf, parameter-early, parameter-late, parameterOf, parametersOf-at}
-use Rattle.room.specs.Table.{bodyLength, sound}
+use Rattle.room.specs.Table.{sound}
+use Rattle.body.specs.Body.{bodyLength}
 use Rattle.room.specs.Table.Walk.{Walk, modulesAt, modules-end, modules-next, modules-start, walk-next, walk-start}
 use Rattle.row.specs.declared.Row.{Row}
 use Rattle.room.specs.declared.table.Module.{Module}

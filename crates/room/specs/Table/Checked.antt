@@ -10,7 +10,8 @@ use lib.Dec.{eqb}
 use lib.ListN.{length, getD, take, drop, length-take, length-drop, drop-of-length-le}
 use lib.Seq.{drop-cons, drop-drop}
 use Rattle.catalogue.specs.Catalogue.{known}
-use Rattle.room.specs.Table.{bodyLength, bodySound, recordLimit, recordsSound, sound, tableNumber}
+use Rattle.room.specs.Table.{recordLimit, recordsSound, sound, tableNumber}
+use Rattle.body.specs.Body.{bodyLength, bodySound}
 
 -- the records before a place are sound, and as many may follow as are left
 pub record Checked (t : List ℕ) (place left : ℕ) : Type 0 where

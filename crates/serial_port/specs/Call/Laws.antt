@@ -4,7 +4,6 @@ use mathlib.Core.Bool.{true, false}
 use mathlib.Core.List.{List, []}
 use Prim.Native.Nat.{ℕ, zero, suc, _+_, _≤_}
 use native.Mathlib.Omega.{arith}
-use borrow.Author.Tests.{le-leb}
 use lib.IntN.{ℤ}
 use lib.ListN.{length, take, drop}
 use lib.Seq.{sets, sets-eq, take-at}
@@ -17,21 +16,11 @@ use Rattle.answer.specs.Answer.{answer}
 use Rattle.answer.specs.Answer.Replies.{reply-limit}
 use Rattle.serial_port.specs.Port.{View, held, over, view, Same, claim, join}
 use Rattle.serial_port.specs.Port.Laws.{join-nothing, same-seen, seen-same}
-use Rattle.serial_port.specs.Call.{Answering, step, replied, waiting, finish, replyLimit, callNumber, call, Handed, Answers}
+use Rattle.serial_port.specs.Call.{Answering, step, replied, waiting, finish, call, Handed, Answers}
+use Rattle.refusal.specs.Refusal.{replyLimit, callNumber}
+use Rattle.refusal.specs.Refusal.Laws.{refused-alike}
 use Rattle.serial_port.specs.declared.port.Port.{Port}
 use Rattle.serial_port.specs.declared.port.Called.{Called}
-
--- when no refusal applies
-pub accepted : (t : List ℕ) (vs : List ℤ) (replyRoom claimed : ℕ) → sound t ≡ true → valuesSound t vs ≡ true
-    → replyLimit ≤ replyRoom → claimed ≤ lineLimit → callNumber t vs replyRoom claimed ≡ 0
-unfolding callNumber
-accepted t vs replyRoom claimed s p h k = rw (s, p, le-leb replyLimit replyRoom h, le-leb claimed lineLimit k) refl
-
--- of a port's claim, only whether it is over 64 counts: a port and its view are refused alike
-pub refused-alike : (t : List ℕ) (vs : List ℤ) (replyRoom claimed other : ℕ) → claimed ≤ lineLimit → other ≤ lineLimit
-    → callNumber t vs replyRoom claimed ≡ callNumber t vs replyRoom other
-unfolding callNumber
-refused-alike t vs replyRoom claimed other h k = rw (le-leb claimed lineLimit h, le-leb other lineLimit k) refl
 
 -- the two kinds of call
 pub step-finishes : (answer : Answering) (vs : List ℤ) (v : View) (bs : List ℕ) → has 0x0D bs ≡ true

@@ -1,44 +1,19 @@
--- How the port call keeps its promise: one rule for each number, and one for each way to return.
+-- How the port call keeps its promise: one rule for each way to return.
 use mathlib.Core.Path.{_≡_, refl}
 use mathlib.Core.Bool.{true, false}
 use mathlib.Core.List.{List}
-use Prim.Native.Nat.{ℕ, zero, suc, _≤_, _<_}
-use borrow.Author.Tests.{le-leb, lt-leb}
+use Prim.Native.Nat.{ℕ, zero, suc, _≤_}
 use lib.IntN.{ℤ}
 use lib.ListN.{length}
 use lib.Seq.{sets}
 use Rattle.text.specs.Cut.{has, indexOf, before}
-use Rattle.room.specs.Table.{sound}
-use Rattle.values.specs.Values.{valuesSound}
 use Rattle.shape.specs.Shape.{lineLimit}
 use Rattle.answer.specs.Answer.{answer}
 use Rattle.serial_port.specs.Port.{view, fresh, join}
-use Rattle.serial_port.specs.Call.{finish, replied, waiting, replyLimit, callNumber, tell, call, tells, Answers}
+use Rattle.serial_port.specs.Call.{finish, replied, waiting, tell, call, tells, Answers}
+use Rattle.refusal.specs.Refusal.{callNumber}
 use Rattle.serial_port.specs.Call.Laws.{step-finishes, step-waits}
 use Rattle.serial_port.specs.declared.port.Port.{Port}
-
--- ---- the number
-
-pub number-table : (t : List ℕ) (vs : List ℤ) (replyRoom claimed : ℕ) → sound t ≡ false → callNumber t vs replyRoom claimed ≡ 1
-unfolding callNumber
-number-table t vs replyRoom claimed s = rw s refl
-
-pub number-values : (t : List ℕ) (vs : List ℤ) (replyRoom claimed : ℕ) → sound t ≡ true → valuesSound t vs ≡ false
-    → callNumber t vs replyRoom claimed ≡ 2
-unfolding callNumber
-number-values t vs replyRoom claimed s r = rw (s, r) refl
-
-pub number-buffer : (t : List ℕ) (vs : List ℤ) (replyRoom claimed : ℕ) → sound t ≡ true → valuesSound t vs ≡ true → replyRoom < replyLimit
-    → callNumber t vs replyRoom claimed ≡ 3
-unfolding callNumber
-number-buffer t vs replyRoom claimed s r h = rw (s, r, lt-leb replyLimit replyRoom h) refl
-
-pub number-claim : (t : List ℕ) (vs : List ℤ) (replyRoom claimed : ℕ) → sound t ≡ true → valuesSound t vs ≡ true → replyLimit ≤ replyRoom
-    → lineLimit < claimed → callNumber t vs replyRoom claimed ≡ 4
-unfolding callNumber
-number-claim t vs replyRoom claimed s r h k = rw (s, r, le-leb replyLimit replyRoom h, lt-leb claimed lineLimit k) refl
-
--- ---- the ways to return
 
 module _ (t : List ℕ) (vs : List ℤ) (p : Port) (bs buffer : List ℕ) where
   -- a refusal

@@ -1,13 +1,12 @@
--- Rules for the code of a call: its number, and the ways in which it returns.
+-- Rules for the code of a call: the ways in which it returns.
 use mathlib.Core.Path.{_≡_, refl, sym, _∙_}
-use mathlib.Core.Bool.{Bool, true, false, not, cond}
+use mathlib.Core.Bool.{true, false}
 use mathlib.Core.List.{List}
 use Prim.Native.Nat.{ℕ, _+_, _≤_, _<_}
 use native.Mathlib.Nat.{zero-add}
 use native.Mathlib.Numerals.{add-one}
 use native.Mathlib.Omega.{arith}
-use borrow.Author.Tests.{not-true, leb-true, lt-ltb, le-ltb}
-use lib.Dec.{leb}
+use borrow.Author.Tests.{lt-ltb, le-ltb}
 use lib.IntN.{ℤ}
 use lib.ListN.{length, take}
 use lib.Seq.{take-length}
@@ -20,59 +19,17 @@ use Rattle.shape.specs.Shape.{lineLimit}
 use Rattle.answer.specs.Answer.{answer}
 use Rattle.serial_port.specs.Port.{view, fresh}
 use Rattle.serial_port.specs.Port.Collecting.{Collects}
-use Rattle.serial_port.specs.Call.{Answers, callNumber, finish, replyLimit}
+use Rattle.serial_port.specs.Call.{Answers, finish}
+use Rattle.refusal.specs.Refusal.{callNumber, replyLimit}
 use Rattle.serial_port.specs.Call.Finishing.{Finishes}
-use Rattle.serial_port.specs.Call.Laws.{accepted}
-use Rattle.serial_port.specs.Call.Rules.{number-table, number-values, number-buffer, number-claim, returns-refused, returns-waiting, returns-finished}
+use Rattle.refusal.specs.Refusal.Laws.{accepted}
+use Rattle.refusal.specs.Refusal.Telling.{accepts}
+use Rattle.serial_port.specs.Call.Rules.{returns-refused, returns-waiting, returns-finished}
 use Rattle.serial_port.specs.declared.port.Port.{Port}
 use Rattle.text.specs.Cut.Laws.{index-within}
 use Rattle.text.specs.Part.{part-counts}
-use Rattle.text.specs.Every.{test-held}
-
--- ---- the number
-
-module _ (t : List ℕ) (vs : List ℤ) (replyRoom claimed : ℕ) (a : Bool) (ea : a ≡ sound t) where
-  pub tells-table : not a ≡ true → 1 ≡ callNumber t vs replyRoom claimed
-  tells-table n = sym (number-table t vs replyRoom claimed (sym ea ∙ not-true a n))
-
-  module _ (na : not a ≡ false) (b : Bool) (eb : b ≡ valuesSound t vs) where
-    pub tells-values : not b ≡ true → 2 ≡ callNumber t vs replyRoom claimed
-    tells-values n = sym (number-values t vs replyRoom claimed (test-held a (sound t) ea na) (sym eb ∙ not-true b n))
-
-    module _ (nb : not b ≡ false) where
-      pub tells-buffer : replyRoom < 64 → 3 ≡ callNumber t vs replyRoom claimed
-      unfolding replyLimit
-      tells-buffer h =
-          sym (number-buffer t vs replyRoom claimed (test-held a (sound t) ea na) (test-held b (valuesSound t vs) eb nb) h)
-
-      pub tells-claim : 64 ≤ replyRoom → 64 < claimed → 4 ≡ callNumber t vs replyRoom claimed
-      unfolding replyLimit lineLimit
-      tells-claim h k =
-          sym (number-claim t vs replyRoom claimed (test-held a (sound t) ea na) (test-held b (valuesSound t vs) eb nb) h k)
-
-      pub tells-none : 64 ≤ replyRoom → claimed ≤ 64 → 0 ≡ callNumber t vs replyRoom claimed
-      unfolding replyLimit lineLimit
-      tells-none h k =
-          sym (accepted t vs replyRoom claimed (test-held a (sound t) ea na) (test-held b (valuesSound t vs) eb nb) h k)
-
-pub ruleset telling = (test-held, tells-table, tells-values, tells-buffer, tells-claim, tells-none)
 
 -- ---- a call with its number
-
-abbrev Accepts : List ℕ → List ℤ → ℕ → ℕ → Type 0
-Accepts t vs replyRoom claimed = (sound t ≡ true) × (valuesSound t vs ≡ true) × (64 ≤ replyRoom) × (claimed ≤ 64)
-
-accepts : (t : List ℕ) (vs : List ℤ) (replyRoom claimed : ℕ) → callNumber t vs replyRoom claimed ≡ 0 → Accepts t vs replyRoom claimed
-unfolding callNumber replyLimit lineLimit
-accepts t vs replyRoom claimed e = go (sound t) (valuesSound t vs) (leb 64 replyRoom) (leb claimed 64) refl refl refl refl e
-  where
-    go : (a b c d : Bool) → sound t ≡ a → valuesSound t vs ≡ b → leb 64 replyRoom ≡ c → leb claimed 64 ≡ d
-        → _≡_ {A = ℕ} (cond a (cond b (cond c (cond d 0 4) 3) 2) 1) 0 → Accepts t vs replyRoom claimed
-    go true true true true p q r s e = (p, q, leb-true 64 replyRoom r, leb-true claimed 64 s)
-    go true true true false p q r s e = absurd (omega arith)
-    go true true false d p q r s e = absurd (omega arith)
-    go true false c d p q r s e = absurd (omega arith)
-    go false b c d p q r s e = absurd (omega arith)
 
 module _ (t : List ℕ) (vs : List ℤ) (p : Port) (bs buffer : List ℕ) (n : ℕ) (e : n ≡ callNumber t vs (length buffer) (p .len)) where
   pub taken-refused : (n ≡ 0 → ⊥) → Answers t vs p bs buffer (record { port = p; consumed = 0; sent = 0; number = n }) vs buffer

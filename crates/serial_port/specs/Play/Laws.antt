@@ -15,8 +15,10 @@ use Rattle.room.specs.Table.{sound}
 use Rattle.values.specs.Values.{valuesSound}
 use Rattle.serial_port.specs.Port.{View, fresh, claim, join}
 use Rattle.serial_port.specs.Port.Laws.{fresh-few, claim-join}
-use Rattle.serial_port.specs.Call.{Answering, finish, replied, waiting, replyLimit}
-use Rattle.serial_port.specs.Call.Laws.{accepted, step-finishes, step-waits}
+use Rattle.serial_port.specs.Call.{Answering, finish, replied, waiting}
+use Rattle.refusal.specs.Refusal.{replyLimit}
+use Rattle.serial_port.specs.Call.Laws.{step-finishes, step-waits}
+use Rattle.refusal.specs.Refusal.Laws.{accepted}
 use Rattle.serial_port.specs.Play.{replyFirst, first, playFrom, refusal, play, feed}
 use Rattle.serial_port.specs.Play.Feed.{finished, feed-waits, feed-finishes, feed-serves}
 use Rattle.serial_port.specs.Play.Kept.{Keeps, finish-keeps}

@@ -16,8 +16,10 @@ use Rattle.values.specs.Values.{valuesSound}
 use Rattle.shape.specs.Shape.{lineLimit}
 use Rattle.answer.specs.Answer.{answer}
 use Rattle.serial_port.specs.Port.{View, view, claim, join}
-use Rattle.serial_port.specs.Call.{Answering, Step, step, finish, replied, waiting, replyLimit, tell, call, tells, Handed, Answers}
-use Rattle.serial_port.specs.Call.Laws.{accepted, step-finishes, step-waits, reply-fits}
+use Rattle.serial_port.specs.Call.{Answering, Step, step, finish, replied, waiting, tell, call, tells, Handed, Answers}
+use Rattle.refusal.specs.Refusal.{replyLimit}
+use Rattle.serial_port.specs.Call.Laws.{step-finishes, step-waits, reply-fits}
+use Rattle.refusal.specs.Refusal.Laws.{accepted}
 use Rattle.serial_port.specs.Play.{Played, ended, replyFirst, feed}
 use Rattle.serial_port.specs.Play.Feed.{finished, feed-nothing, feed-waits, feed-first}
 use Rattle.stream.specs.Stream.{joined}

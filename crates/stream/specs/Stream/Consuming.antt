@@ -10,7 +10,8 @@ use lib.IntN.{ℤ}
 use lib.ListN.{length, drop, length-drop}
 use Rattle.answer.specs.Answer.{answer}
 use Rattle.serial_port.specs.Port.{View}
-use Rattle.serial_port.specs.Call.{step, replyLimit}
+use Rattle.serial_port.specs.Call.{step}
+use Rattle.refusal.specs.Refusal.{replyLimit}
 use Rattle.stream.specs.Stream.{consumes}
 use Rattle.stream.specs.Stream.Calls.{consumed-some}
 

@@ -20,7 +20,8 @@ use Rattle.shape.specs.Shape.{lineLimit}
 use Rattle.answer.specs.Answer.{answer}
 use Rattle.serial_port.specs.Port.{view}
 use Rattle.serial_port.specs.Port.Laws.{claim-view}
-use Rattle.serial_port.specs.Call.{step, replyLimit, Answers}
+use Rattle.serial_port.specs.Call.{step, Answers}
+use Rattle.refusal.specs.Refusal.{replyLimit}
 use Rattle.serial_port.specs.Play.{ended, feed}
 use Rattle.serial_port.specs.Play.Feed.{followed}
 use Rattle.serial_port.specs.Play.Kept.{feed-keeps}

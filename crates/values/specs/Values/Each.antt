@@ -11,7 +11,8 @@ use lib.IntN.{ℤ}
 use lib.ListN.{length, getD, take, drop, length-drop}
 use lib.Seq.{drop-drop}
 use Rattle.catalogue.specs.Catalogue.{rowsOf}
-use Rattle.room.specs.Table.{bodyLength, sound}
+use Rattle.room.specs.Table.{sound}
+use Rattle.body.specs.Body.{bodyLength}
 use Rattle.parameter.specs.Parameters.{parameters, parametersOf}
 use Rattle.parameter.specs.Parameters.Walk.{Counted, counted-all, counted-next, counted-start, module-count, moduleHere, parametersAt, parameters-end, parameters-next, parameters-start}
 use Rattle.parameter.specs.declared.Parameter.{Parameter}

@@ -13,7 +13,7 @@ use Rattle.text.specs.Part.{part-left}
 use Rattle.parameter.specs.Parameters.{numbered, parametersOf}
 use Rattle.parameter.specs.Parameters.Walk.{moduleHere}
 use Rattle.row.specs.Row.{permitted}
-use Rattle.room.specs.Table.{bodyLength}
+use Rattle.body.specs.Body.{bodyLength}
 use Rattle.values.specs.Values.{eachPermitted, rowsPermit, valuesSound}
 use Rattle.values.specs.Values.Each.{Each, Tests, each-all, each-next, each-short, each-start, each-wrong}
 use Rattle.row.specs.declared.Row.{Row}

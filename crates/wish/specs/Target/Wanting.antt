@@ -11,7 +11,8 @@ use lib.ListN.{length, getD, take, drop}
 use Rattle.catalogue.specs.Catalogue.{rowsOf}
 use Rattle.row.specs.Row.{permitted}
 use Rattle.row.specs.declared.Row.{Row}
-use Rattle.room.specs.Table.{bodyLength, modules, sound}
+use Rattle.room.specs.Table.{modules, sound}
+use Rattle.body.specs.Body.{bodyLength}
 use Rattle.room.specs.Table.Walk.{walk-numbered}
 use Rattle.parameter.specs.Parameters.{numbered, parametersOf}
 use Rattle.parameter.specs.Parameters.Walk.{moduleHere}

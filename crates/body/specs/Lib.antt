@@ -1,0 +1,2 @@
+-- The body of a record: its length and its soundness, by kind.
+pub mod Body

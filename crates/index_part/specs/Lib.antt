@@ -1,0 +1,2 @@
+-- The index part of a line: one or two groups.
+pub mod IndexPart

@@ -1,3 +1,0 @@
-// The parts of a line that name a row and say a value: its index part and its value text.
-pub mod index;
-pub mod value;

@@ -1,0 +1,2 @@
+-- The restore list as a definition.
+pub mod Listing

@@ -1,0 +1,1 @@
+// The restore list as a definition: definitions and laws alone.

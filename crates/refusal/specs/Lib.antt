@@ -1,0 +1,2 @@
+-- Which number a port call is refused with.
+pub mod Refusal

@@ -1,9 +1,0 @@
--- `body_length`: every kind's body is a label's field.
-use mathlib.Core.Path.{refl}
-use Rattle.room.specs.Table.{bodyLength}
-use Rattle.room.proofs.table.body_length.Statement.{statement}
-use Rattle.room.proofs.table.body_length.Tie as tie
-
-pub body-length-spec : {M : Type 1} → statement M
-unfolding bodyLength
-body-length-spec = tie.close (tie.spec (λ c. refl))

@@ -1,0 +1,2 @@
+-- The start values: what a program starts with.
+pub mod Starts

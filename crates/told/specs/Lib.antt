@@ -1,0 +1,2 @@
+-- What the calls for C tell.
+pub mod Told
