@@ -10,7 +10,8 @@ use lib.ListN.{getD, set}
 use Rattle.written.specs.Written.{Wrote}
 use Rattle.parameter.specs.Parameters.{place}
 use Rattle.meaning.specs.Meaning.{meaning}
-use Rattle.reply.specs.Reply.{ack, nak, getReply}
+use Rattle.reply.specs.Reply.{getReply}
+use Rattle.acknowledgement.specs.Acknowledgement.{ack, nak}
 use Rattle.meaning.specs.declared.Meaning.{Meaning}
 use Rattle.meaning.specs.declared.Meaning.the-variants.{Code, Get, Put}
 

@@ -24,7 +24,8 @@ use Rattle.index_part.specs.IndexPart.{oneGroup, twoGroups, groups, readIndices
 use Rattle.value_text.specs.Value.{ofLevel, ofNumber, ofSwitch, readKind, onlyPermitted, readValue}
 use Rattle.meaning.specs.Meaning.{indexed, inModule, inRoom, putOf, getOf, setOf, ofShape, meaning}
 use Rattle.name.specs.Name.{indexText, name}
-use Rattle.reply.specs.Reply.{ack, nak, replyText, getReply}
+use Rattle.reply.specs.Reply.{replyText, getReply}
+use Rattle.acknowledgement.specs.Acknowledgement.{ack, nak}
 use Rattle.answer.specs.Answer.{Answer, act, answer}
 use Rattle.values.specs.Values.{equal}
 use Rattle.text.specs.Every.{every}

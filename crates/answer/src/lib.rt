@@ -1,10 +1,10 @@
 // The answer to a line: the reply, and the values afterwards.
+use acknowledgement::put_ack;
+use acknowledgement::put_nak;
 use meaning::Meaning;
 use meaning::meaning_of;
 use parameter::Parameter;
-use reply::put_ack;
 use reply::put_get;
-use reply::put_nak;
 ghost use mathlib.Core.Bool.{true};
 ghost use mathlib.Core.Path.{_≡_};
 ghost use Prim.Native.Nat.{_+_, _<_, _≤_};
@@ -17,7 +17,8 @@ ghost use Rattle.room.specs.Table.{sound};
 ghost use Rattle.values.specs.Values.{valuesSound};
 ghost use Rattle.answer.specs.Answer.{Answers};
 ghost use Rattle.answer.specs.Answer.Replying.{Tellable};
-ghost use Rattle.reply.specs.Reply.{ack, getReply};
+ghost use Rattle.reply.specs.Reply.{getReply};
+ghost use Rattle.acknowledgement.specs.Acknowledgement.{ack};
 
 // Tells the present value of a parameter.
 fn tell(table: &[u8], values: &[i64], p: Parameter, reply: &mut [u8]) -> usize

@@ -10,7 +10,7 @@ use lib.ListN.{length, take, replicate}
 use Rattle.text.specs.Byte.{isByte}
 use Rattle.text.specs.Every.{every}
 use Rattle.parameter.specs.Parameters.{parameters}
-use Rattle.reply.specs.Reply.{ack}
+use Rattle.acknowledgement.specs.Acknowledgement.{ack}
 use Rattle.serial_port.specs.Port.{fresh}
 use Rattle.refusal.specs.Refusal.{replyLimit}
 use Rattle.serial_port.specs.Play.{play}

@@ -16,7 +16,7 @@ use Rattle.parameter.specs.Parameters.{parameters, place, parameterAt}
 use Rattle.parameter.specs.declared.Parameter.{Parameter}
 use Rattle.parameter.specs.declared.ParameterFound.the-variants.{At}
 use Rattle.shape.specs.Shape.{lineLimit}
-use Rattle.reply.specs.Reply.{ack}
+use Rattle.acknowledgement.specs.Acknowledgement.{ack}
 use Rattle.answer.specs.Answer.{answer}
 use Rattle.answer.specs.Answer.Laws.{Settable}
 use Rattle.say.specs.Say.{say}

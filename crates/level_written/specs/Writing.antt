@@ -15,7 +15,7 @@ use Rattle.level.specs.Level.Sign.{kept, sign-minus, sign-none}
 use Rattle.level.specs.Level.Told.{short-none, short-some, tenth-long}
 use Rattle.written.specs.Written.{Wrote}
 use Rattle.written.specs.Written.Laws.{wrote-nothing, wrote-join}
-use Rattle.written.specs.Written.Writing.{room-first, room-second}
+use Rattle.written.specs.Written.Laws.{room-first, room-second}
 
 module _ (v : ℤ) (at : ℕ) (f : SFits w64 v) where
   pub sign-room : (long : ℕ) → ltZ (kept v) (pos 0) ≡ true → at + length (signText v) ≤ long → at + 1 ≤ long

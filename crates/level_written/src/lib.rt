@@ -1,7 +1,7 @@
 // Writing level texts into a lent buffer from a place on; each writer answers the place behind its text.
 use level::sign::magnitude;
+use number_written::put_number;
 use written::put_byte;
-use written::put_number;
 ghost use Prim.Native.Nat.{_+_, _≤_, _<_};
 ghost use lib.ListN.{length};
 ghost use Rattle.level.specs.Level.{signText, tenthText, wholeText, levelText, oneDecimalText};

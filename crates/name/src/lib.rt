@@ -1,11 +1,11 @@
 // How a line names a parameter: the label between quotes and the indices, each after `>`; its length, and writing it.
 use length::number_length;
+use number_written::put_number;
 use parameter::Parameter;
 use room::table::Module;
 use row::Indices;
 use written::put_byte;
 use written::put_bytes;
-use written::put_number;
 ghost use mathlib.Core.Path.{_≡_};
 ghost use Prim.Native.Nat.{_+_, _≤_};
 ghost use lib.ListN.{length};

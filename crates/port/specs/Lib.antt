@@ -1,4 +1,3 @@
--- What holds while the program reads its table and answers its input.
-pub mod Input
+-- What holds while the program reads its table and starts.
 pub mod Reading
 pub mod Start

@@ -1,2 +1,2 @@
--- The replies.
+-- The answer to a get line.
 pub mod Reply

@@ -1,7 +1,7 @@
--- Replies: ACK, NAK with a code, and the answer to a get line.
+-- The answer to a get line.
 pub mod Writing
 use mathlib.Core.List.{List, [], _∷_, _++_}
-use Prim.Native.Nat.{ℕ, _+_, _/_, _%_}
+use Prim.Native.Nat.{ℕ}
 use lib.IntN.{ℤ, natAbs}
 use Rattle.text.specs.Digits.{digits}
 use Rattle.level.specs.Level.{oneDecimalText}
@@ -10,14 +10,6 @@ use Rattle.row.specs.declared.Kind.{Kind}
 use Rattle.row.specs.declared.Kind.the-variants as kind
 use Rattle.parameter.specs.declared.Parameter.{Parameter}
 use Rattle.name.specs.Name.{name}
-
--- 06, 0D
-unfoldable pub ack : List ℕ
-ack = 0x06 ∷ 0x0D ∷ []
-
--- 15, the code in two digits, 0D
-unfoldable pub nak : ℕ → List ℕ
-nak code = 0x15 ∷ (48 + code / 10) ∷ (48 + code % 10) ∷ 0x0D ∷ []
 
 -- a value in a reply: a level with exactly one decimal, O or F, a number without leading zeros
 unfoldable pub replyText : Kind → ℤ → List ℕ

@@ -1,35 +1,17 @@
-// Replies, written at the start of the reply buffer.
+// The answer to a get line, written at the start of the reply buffer.
 use label::label_length;
 use level::sign::magnitude;
 use level_written::put_level_one_decimal;
 use name::put_front;
+use number_written::put_number;
+use number_written::put_switch;
 use parameter::Parameter;
 use row::Kind;
 use written::put_byte;
-use written::put_bytes;
-use written::put_number;
-use written::put_switch;
-ghost use Prim.Native.Nat.{_+_, _<_, _≤_};
+ghost use Prim.Native.Nat.{_+_, _≤_};
 ghost use lib.ListN.{length};
 ghost use Rattle.written.specs.Written.{Wrote};
-ghost use Rattle.reply.specs.Reply.{ack, getReply, nak, replyText};
-
-pub fn put_ack(reply: &mut [u8]) -> usize
-    requires { ⌜ 2 ≤ length (now reply) ⌝ }
-    ensures { λ r. ⌜ Wrote (now (reply .entry)) 0 ack r (now (reply .exit)) ⌝ }
-{
-    let text = [0x06, 0x0D];
-    put_bytes(reply, 0, &text)
-}
-
-pub fn put_nak(reply: &mut [u8], code: u8) -> usize
-    requires { ⌜ code < 100 ⌝ }
-    requires { ⌜ 4 ≤ length (now reply) ⌝ }
-    ensures { λ r. ⌜ Wrote (now (reply .entry)) 0 (nak code) r (now (reply .exit)) ⌝ }
-{
-    let text = [0x15, b'0' + code / 10, b'0' + code % 10, 0x0D];
-    put_bytes(reply, 0, &text)
-}
+ghost use Rattle.reply.specs.Reply.{getReply, replyText};
 
 // A value as a reply tells it.
 fn put_told(buffer: &mut [u8], at: usize, kind: Kind, v: i64) -> usize

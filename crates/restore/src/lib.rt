@@ -1,5 +1,5 @@
 // The restore call.
-use catalogue::all_rows;
+use catalogue_table::all_rows;
 use demand::Restored;
 use list::write;
 use measure::Measured;

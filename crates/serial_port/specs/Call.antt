@@ -12,7 +12,7 @@ use lib.ListN.{length}
 use lib.Seq.{sets}
 use Rattle.text.specs.Cut.{has, indexOf, before}
 use Rattle.shape.specs.Shape.{lineLimit}
-use Rattle.reply.specs.Reply.{nak}
+use Rattle.acknowledgement.specs.Acknowledgement.{nak}
 use Rattle.answer.specs.Answer.{Answer, answer}
 use Rattle.refusal.specs.Refusal.{callNumber}
 use Rattle.serial_port.specs.Port.{View, held, over, view, fresh, join}

@@ -1,8 +1,8 @@
 // The port: it collects bytes into lines, and answers each line once.
+use acknowledgement::put_nak;
 use answer::answer_line;
-use catalogue::all_rows;
+use catalogue_table::all_rows;
 use refusal::call_number;
-use reply::put_nak;
 use text::cut::find;
 use written::put_bytes;
 ghost use mathlib.Core.Bool.{true};

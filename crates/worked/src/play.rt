@@ -1,5 +1,5 @@
 // A script played on a room: lines, each with its 0D and then the reply that it must get.
-use catalogue::all_rows;
+use catalogue_table::all_rows;
 use parameter::parameter_count;
 use room::table::is_sound;
 use serial_port::port::Port;

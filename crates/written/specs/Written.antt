@@ -1,6 +1,5 @@
 -- What a writer leaves: its text from a place of the buffer on, and every other byte as it was.
 pub mod Laws
-pub mod Writing
 use mathlib.Core.Path.{_≡_}
 use mathlib.Core.List.{List}
 use Prim.Native.Nat.{ℕ, _+_}

@@ -17,7 +17,8 @@ use Rattle.parameter.specs.declared.ParameterFound.the-variants.{At}
 use Rattle.shape.specs.Shape.{part}
 use Rattle.meaning.specs.Meaning.{meaning}
 use Rattle.meaning.specs.Meaning.Laws.{Puts, Gets, names-place, names-label, put-told, get-told}
-use Rattle.reply.specs.Reply.{ack, nak, getReply}
+use Rattle.reply.specs.Reply.{getReply}
+use Rattle.acknowledgement.specs.Acknowledgement.{ack, nak}
 use Rattle.answer.specs.Answer.{Answer, act, answer}
 use Rattle.meaning.specs.declared.Meaning.{Meaning}
 use Rattle.meaning.specs.declared.Meaning.the-variants.{Code, Get, Put}

@@ -16,7 +16,8 @@ use Rattle.parameter.specs.declared.Parameter.{Parameter}
 use Rattle.shape.specs.Shape.{part}
 use Rattle.meaning.specs.Meaning.{meaning}
 use Rattle.meaning.specs.Meaning.Laws.{Gets, names-label, get-told}
-use Rattle.reply.specs.Reply.{ack, nak, getReply}
+use Rattle.reply.specs.Reply.{getReply}
+use Rattle.acknowledgement.specs.Acknowledgement.{ack, nak}
 use Rattle.answer.specs.Told.{Told, reply-told}
 use Rattle.answer.specs.Answer.{act, answer}
 use Rattle.answer.specs.Answer.Laws.{Effect, refused, told, put, gets-place, answered, effect}

@@ -34,7 +34,8 @@ use Rattle.answer.specs.Answer.Laws.{answered, gets-place, puts-place}
 use Rattle.answer.specs.Answer.Replies.{gets-label, reply-limit}
 use Rattle.meaning.specs.Meaning.{Target, target, code, getOf, inModule, inRoom, indexed, meaning, ofShape, putOf, setOf}
 use Rattle.meaning.specs.Meaning.Laws.{get-told, put-told}
-use Rattle.reply.specs.Reply.{ack, nak, getReply}
+use Rattle.reply.specs.Reply.{getReply}
+use Rattle.acknowledgement.specs.Acknowledgement.{ack, nak}
 use Rattle.meaning.specs.declared.Meaning.{Meaning}
 use Rattle.meaning.specs.declared.Meaning.the-variants.{Code, Get, Put}
 

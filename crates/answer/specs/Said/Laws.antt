@@ -25,7 +25,7 @@ use Rattle.answer.specs.Said.Texts.{text-back, text-short, text-lacks}
 use Rattle.meaning.specs.Meaning.{meaning}
 use Rattle.meaning.specs.Meaning.Laws.{puts-back}
 use Rattle.name.specs.Name.{name}
-use Rattle.reply.specs.Reply.{ack}
+use Rattle.acknowledgement.specs.Acknowledgement.{ack}
 use Rattle.answer.specs.Answer.{act, answer}
 use Rattle.answer.specs.Answer.Laws.{Puttable, answered}
 use Rattle.say.specs.Say.{setText, say}

@@ -6,7 +6,7 @@ use native.Mathlib.Omega.{arith}
 use lib.ListN.{length, length-append}
 use Rattle.written.specs.Written.{Wrote}
 use Rattle.written.specs.Written.Laws.{wrote-join}
-use Rattle.written.specs.Written.Writing.{room-first}
+use Rattle.written.specs.Written.Laws.{room-first}
 use Rattle.parameter.specs.declared.Parameter.{Parameter}
 use Rattle.name.specs.Name.Writing.{front, same-front, room-middle, room-third}
 

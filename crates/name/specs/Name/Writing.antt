@@ -7,7 +7,7 @@ use lib.ListN.{length, take, drop}
 use Rattle.text.specs.Digits.{digits}
 use Rattle.written.specs.Written.{Wrote}
 use Rattle.written.specs.Written.Laws.{wrote-join}
-use Rattle.written.specs.Written.Writing.{room-first, room-second}
+use Rattle.written.specs.Written.Laws.{room-first, room-second}
 use Rattle.row.specs.declared.Indices.{Indices}
 use Rattle.row.specs.declared.Indices.the-variants.{OneGroup, TwoGroups}
 use Rattle.label.specs.Label.{label}

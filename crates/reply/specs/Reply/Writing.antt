@@ -1,7 +1,7 @@
--- How replies are written: a rule for each return and each call of their writers.
+-- How the answer to a get line is written: a rule for each return and each call of its writers.
 use mathlib.Core.Path.{_≡_}
 use mathlib.Core.List.{List, [], _∷_, _++_, append-assoc}
-use Prim.Native.Nat.{ℕ, _+_, _/_, _%_, _≤_}
+use Prim.Native.Nat.{ℕ, _+_, _≤_}
 use lib.IntN.{ℤ, natAbs}
 use lib.ListN.{length}
 use mir.Syntax.{w64}
@@ -15,19 +15,9 @@ use Rattle.written.specs.Written.{Wrote}
 use Rattle.row.specs.declared.Kind.{Kind}
 use Rattle.row.specs.declared.Kind.the-variants as kind
 use Rattle.parameter.specs.declared.Parameter.{Parameter}
-use Rattle.reply.specs.Reply.{ack, nak, replyText, getReply}
+use Rattle.reply.specs.Reply.{replyText, getReply}
 use Rattle.name.specs.Name.Line.{out-first, out-second, out-third, wrote-out}
 use Rattle.name.specs.Name.Writing.{front}
-
--- ---- ACK and NAK
-
-pub wrote-ack : (l : List ℕ) (r : ℕ) (m : List ℕ) → Wrote l 0 (0x06 ∷ 0x0D ∷ []) r m → Wrote l 0 ack r m
-unfolding ack
-wrote-ack l r m w = w
-
-pub wrote-nak : (l : List ℕ) (code r : ℕ) (m : List ℕ) → Wrote l 0 (0x15 ∷ (48 + code / 10) ∷ (48 + code % 10) ∷ 0x0D ∷ []) r m → Wrote l 0 (nak code) r m
-unfolding nak
-wrote-nak l code r m w = w
 
 -- ---- a value, by its kind; a callee is handed it as the code keeps it
 

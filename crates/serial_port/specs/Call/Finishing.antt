@@ -6,7 +6,7 @@ use Prim.Native.Nat.{ℕ}
 use lib.IntN.{ℤ}
 use lib.ListN.{take}
 use Rattle.written.specs.Written.{Wrote}
-use Rattle.reply.specs.Reply.{nak}
+use Rattle.acknowledgement.specs.Acknowledgement.{nak}
 use Rattle.answer.specs.Answer as line
 use Rattle.answer.specs.Answer.{answer}
 use Rattle.serial_port.specs.Port.{view}

@@ -11,7 +11,7 @@ use Rattle.text.specs.Cut.{has, indexOf, before}
 use Rattle.room.specs.Table.{sound}
 use Rattle.values.specs.Values.{valuesSound}
 use Rattle.shape.specs.Shape.{lineLimit}
-use Rattle.reply.specs.Reply.{nak}
+use Rattle.acknowledgement.specs.Acknowledgement.{nak}
 use Rattle.answer.specs.Answer.{answer}
 use Rattle.answer.specs.Answer.Replies.{reply-limit}
 use Rattle.serial_port.specs.Port.{View, held, over, view, Same, claim, join}

@@ -11,7 +11,7 @@ use lib.ListN.{length, take}
 use Rattle.text.specs.Cut.{has, indexOf, before, after}
 use Rattle.text.specs.Cut.Lacking.{has-not, before-lacks, parts-joined, through-first}
 use Rattle.shape.specs.Shape.{lineLimit}
-use Rattle.reply.specs.Reply.{nak}
+use Rattle.acknowledgement.specs.Acknowledgement.{nak}
 use Rattle.answer.specs.Answer.{Answer}
 use Rattle.serial_port.specs.Port.{View, fresh, claim, join}
 use Rattle.serial_port.specs.Port.Laws.{fresh-few, join-nothing, join-join, join-fresh, join-overruns, claim-join}

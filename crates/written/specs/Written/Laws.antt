@@ -55,6 +55,18 @@ lent-wrote l part at r text h w =
       bytes = rw (none, append-nil part, whole) (sym (sets-eq text l at h ∙ append-assoc (take at l) text (drop (at + length text) l)));
     }
 
+-- ---- two texts
+
+-- room for a text and another behind it is room for each
+pub room-first : (s t : List ℕ) (at long : ℕ) → at + length (s ++ t) ≤ long → at + length s ≤ long
+room-first s t at long r = let e = length-append s t in omega arith
+
+pub room-second : (s t l : List ℕ) (at j : ℕ) (m : List ℕ) → at + length (s ++ t) ≤ length l → Wrote l at s j m → j + length t ≤ length m
+room-second s t l at j m r w =
+    let e = length-append s t in
+    let f = wrote-length w in
+    omega (arith, w .past)
+
 -- ---- a copy, byte by byte
 
 -- the first i bytes of `source` were written

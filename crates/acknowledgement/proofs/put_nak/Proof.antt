@@ -1,8 +1,8 @@
 -- `put_nak`: four bytes.
 use borrow.Author.Needs.{needs}
-use Rattle.reply.specs.Reply.Writing.{wrote-nak}
-use Rattle.reply.proofs.put_nak.Statement.{statement}
-use Rattle.reply.proofs.put_nak.Tie as tie
+use Rattle.acknowledgement.specs.Acknowledgement.Writing.{wrote-nak}
+use Rattle.acknowledgement.proofs.put_nak.Statement.{statement}
+use Rattle.acknowledgement.proofs.put_nak.Tie as tie
 
 pub put-nak-spec : {M : Type 1} → statement M
 put-nak-spec =

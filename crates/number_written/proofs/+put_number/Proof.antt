@@ -4,13 +4,13 @@ use native.Mathlib.Omega.{arith}
 use borrow.Author.Needs.{needs}
 use borrow.Fn.Kinds.{In}
 use borrow.Fn.PlainCycle.{Measures, is, falls, and}
-use Rattle.written.specs.Written.Writing.{wrote-one, number-writing}
-use Rattle.written.proofs.put_number.Reads as put-number
-use Rattle.written.proofs.put_number.Kinds as put-number-kinds
-use Rattle.written.proofs.+put_number.Lts-put_number as put-number-lts
+use Rattle.number_written.specs.Writing.{wrote-one, number-writing}
+use Rattle.number_written.proofs.put_number.Reads as put-number
+use Rattle.number_written.proofs.put_number.Kinds as put-number-kinds
+use Rattle.number_written.proofs.+put_number.Lts-put_number as put-number-lts
 use Rattle.written.proofs.put_byte.Reads as put-byte-reads
-use Rattle.written.proofs.+put_number.{statement}
-use Rattle.written.proofs.+put_number.Tie.{close}
+use Rattle.number_written.proofs.+put_number.{statement}
+use Rattle.number_written.proofs.+put_number.Tie.{close}
 
 abbrev μ-put-number : Measures 1 put-number-kinds.ps ℕ
 μ-put-number κs a = a .1 .1 .0

@@ -1,8 +1,8 @@
 -- `put_switch`: the text is one byte.
 use borrow.Author.Needs.{needs}
-use Rattle.written.specs.Written.Writing.{switch-writing}
-use Rattle.written.proofs.put_switch.Statement.{statement}
-use Rattle.written.proofs.put_switch.Tie as tie
+use Rattle.number_written.specs.Writing.{switch-writing}
+use Rattle.number_written.proofs.put_switch.Statement.{statement}
+use Rattle.number_written.proofs.put_switch.Tie as tie
 
 pub put-switch-spec : {M : Type 1} → statement M
 put-switch-spec =

@@ -22,7 +22,7 @@ use Rattle.stream.specs.Stream.Flow.{flow-nothing, flow-more}
 use Rattle.stream.specs.Stream.Laws.{serves-right, serves-size, serves-some, serves-long}
 use Rattle.serial_port.specs.declared.port.Port.{Port}
 use Rattle.stream.specs.declared.Served.{Served}
-use Rattle.port.specs.declared.input.Answered.{Answered}
+use Rattle.standard_input.specs.declared.Answered.{Answered}
 
 -- right values, and a port that claims at most 64 bytes
 pub record Kept (t : List ℕ) (vs : List ℤ) (q : Port) : Type 0 where

@@ -1,16 +1,16 @@
 -- How each text is written: a rule for each return and each call of its writer.
 use mathlib.Core.Path.{_≡_}
-use mathlib.Core.List.{List, [], _∷_, _++_}
+use mathlib.Core.List.{List, [], _∷_}
 use Prim.Native.Nat.{ℕ, _+_, _/_, _%_, _≤_, _<_}
 use native.Mathlib.Decide.{decLt}
 use native.Mathlib.Omega.{arith}
 use borrow.Author.Tests.{eq-eqb, ne-eqb}
-use lib.ListN.{length, length-append}
+use lib.ListN.{length}
 use Rattle.text.specs.Digits.{digits}
 use Rattle.text.specs.Digits.Laws.{one-digit, more-digits, more-length, some-digits}
 use Rattle.text.specs.Switch.{switchText}
 use Rattle.written.specs.Written.{Wrote}
 use Rattle.written.specs.Written.Laws.{wrote-join, wrote-length}
 
 -- ---- switches
 
@@ -60,15 +60,3 @@ pub wrote-more : (l : List ℕ) (at n j r : ℕ) (m k : List ℕ) → 10 ≤ n �
 wrote-more l at n j r m k h a b = rw (more-digits n h) (wrote-join a b)
 
 pub ruleset number-writing = (one-room, front-room, last-room, wrote-more)
-
--- ---- two texts
-
--- room for a text and another behind it is room for each
-pub room-first : (s t : List ℕ) (at long : ℕ) → at + length (s ++ t) ≤ long → at + length s ≤ long
-room-first s t at long r = let e = length-append s t in omega arith
-
-pub room-second : (s t l : List ℕ) (at j : ℕ) (m : List ℕ) → at + length (s ++ t) ≤ length l → Wrote l at s j m → j + length t ≤ length m
-room-second s t l at j m r w =
-    let e = length-append s t in
-    let f = wrote-length w in
-    omega (arith, w .past)

@@ -1,8 +1,8 @@
 -- `answer_read`: the bytes that came are answered.
 use borrow.Author.Needs.{needs}
-use Rattle.port.specs.Input.{one-read}
-use Rattle.port.proofs.input.answer_read.Statement.{statement}
-use Rattle.port.proofs.input.answer_read.Tie as tie
+use Rattle.standard_input.specs.Input.{one-read}
+use Rattle.standard_input.proofs.answer_read.Statement.{statement}
+use Rattle.standard_input.proofs.answer_read.Tie as tie
 
 pub answer-read-spec : {M : Type 1} → statement M
 answer-read-spec =

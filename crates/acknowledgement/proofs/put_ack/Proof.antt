@@ -1,8 +1,8 @@
 -- `put_ack`: two bytes.
 use borrow.Author.Needs.{needs}
-use Rattle.reply.specs.Reply.Writing.{wrote-ack}
-use Rattle.reply.proofs.put_ack.Statement.{statement}
-use Rattle.reply.proofs.put_ack.Tie as tie
+use Rattle.acknowledgement.specs.Acknowledgement.Writing.{wrote-ack}
+use Rattle.acknowledgement.proofs.put_ack.Statement.{statement}
+use Rattle.acknowledgement.proofs.put_ack.Tie as tie
 
 pub put-ack-spec : {M : Type 1} → statement M
 put-ack-spec =

@@ -1,8 +1,8 @@
 -- `all_rows`: the constant is the catalogue's numbers, compared once.
 use mathlib.Core.Path.{refl}
 use Rattle.catalogue.specs.Catalogue.{catalogue, columns, firstNumber, kindNumber, level, minus, number, numbers, secondNumber, switch}
-use Rattle.catalogue.proofs.all_rows.Statement.{statement}
-use Rattle.catalogue.proofs.all_rows.Tie as tie
+use Rattle.catalogue_table.proofs.all_rows.Statement.{statement}
+use Rattle.catalogue_table.proofs.all_rows.Tie as tie
 
 returns : tie.Need-returns
 unfolding numbers catalogue columns level firstNumber secondNumber kindNumber switch number minus

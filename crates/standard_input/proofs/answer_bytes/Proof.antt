@@ -2,9 +2,9 @@
 use Prim.Native.Nat.{_-_}
 use borrow.Author.Needs.{needs}
 use lib.ListN.{length}
-use Rattle.port.specs.Input.{Answering, answering}
-use Rattle.port.proofs.input.answer_bytes.Statement.{statement}
-use Rattle.port.proofs.input.answer_bytes.Tie as tie
+use Rattle.standard_input.specs.Input.{Answering, answering}
+use Rattle.standard_input.proofs.answer_bytes.Statement.{statement}
+use Rattle.standard_input.proofs.answer_bytes.Tie as tie
 
 abbrev Inv-loop : tie.InvT-loop
 Inv-loop table rows values₀ given out₀ port₀ at₀ values out port at = Answering table values₀ port₀ given out₀ values port at out

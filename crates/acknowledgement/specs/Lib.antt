@@ -1,0 +1,2 @@
+-- ACK, and NAK with a code.
+pub mod Acknowledgement

@@ -1,0 +1,2 @@
+-- Rules for the code that writes number and switch texts.
+pub mod Writing

@@ -1,0 +1,2 @@
+-- What the bytes of a read do.
+pub mod Input
