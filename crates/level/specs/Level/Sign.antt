@@ -93,8 +93,8 @@ module _ (v : ℤ) (f : SFits w64 v) (t : ltZ (kept v) (pos 0) ≡ true) where
   pub turned-size-fits : Fits w64 (natAbs (kept (turned v)))
   turned-size-fits = let b = below in rw kept-is (record { fits = omega arith })
 
-  pub size-fits : Fits w64 (natAbs (kept (turned v)) + 1)
-  size-fits = let b = below in rw kept-is (record { fits = omega arith })
+  pub size-fits : (k : ℕ) → k ≤ 2 → Fits w64 (natAbs (kept (turned v)) + k)
+  size-fits k h = let b = below in rw kept-is (record { fits = omega arith })
 
   pub size-is : natAbs (kept (turned v)) + 1 ≡ natAbs v
   size-is = let b = below in rw kept-is (omega arith)
