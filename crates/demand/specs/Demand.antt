@@ -1,6 +1,7 @@
 -- Demand 3: the restore list fulfils the wish, and no byte sequence that does is shorter.
 pub mod Exactly
 pub mod Laws
+pub mod Played
 pub mod Rules
 use mathlib.Core.Path.{_≡_}
 use mathlib.Core.Bool.{true, false}

@@ -1,5 +1,4 @@
 -- Demand 3: the restore list is the shortest byte sequence that fulfils the wish.
 pub mod Lines
-pub mod Played
 pub mod Demand
 pub mod Worked

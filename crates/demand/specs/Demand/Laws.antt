@@ -28,7 +28,7 @@ use Rattle.listing.specs.Listing.{Admitted, changes, listing, allReachable, lis
 use Rattle.listing.specs.Listing.Beyond.{beyond}
 use Rattle.listing.specs.Listing.Numbers.{number-list}
 use Rattle.listing.specs.Listing.Counted.{lines-differing}
-use Rattle.demand.specs.Played.{AllSayable, all-sayable, from-start, done, listing-bytes, play-listing}
+use Rattle.demand.specs.Demand.Played.{AllSayable, all-sayable, from-start, done, listing-bytes, play-listing}
 use Rattle.demand.specs.Demand.{Fulfils, Shortest, Listed, Demanded, accepted, unreachable, no-room, DemandThree, tells, Restores}
 use Rattle.demand.specs.declared.Restored.{Restored}
 use Rattle.values.specs.Values.Laws.{values-many, values-each}

@@ -14,6 +14,8 @@ use Rattle.shape.specs.Shape.{lineLimit}
 use Rattle.refusal.specs.Refusal.{callNumber, replyLimit}
 use Rattle.refusal.specs.Refusal.Laws.{number-table, number-values, number-buffer, number-claim, accepted}
 
+-- ---- the number
+
 module _ (t : List ℕ) (vs : List ℤ) (replyRoom claimed : ℕ) (a : Bool) (ea : a ≡ sound t) where
   pub tells-table : not a ≡ true → 1 ≡ callNumber t vs replyRoom claimed
   tells-table n = sym (number-table t vs replyRoom claimed (sym ea ∙ not-true a n))
@@ -40,11 +42,12 @@ module _ (t : List ℕ) (vs : List ℤ) (replyRoom claimed : ℕ) (a : Bool) (ea
 
 pub ruleset telling = (test-held, tells-table, tells-values, tells-buffer, tells-claim, tells-none)
 
--- what holds where no number applies
-abbrev pub Accepts : List ℕ → List ℤ → ℕ → ℕ → Type 0
+-- ---- what the number 0 tells
+
+abbrev Accepts : List ℕ → List ℤ → ℕ → ℕ → Type 0
 Accepts t vs replyRoom claimed = (sound t ≡ true) × (valuesSound t vs ≡ true) × (64 ≤ replyRoom) × (claimed ≤ 64)
 
-pub accepts : (t : List ℕ) (vs : List ℤ) (replyRoom claimed : ℕ) → callNumber t vs replyRoom claimed ≡ 0 → Accepts t vs replyRoom claimed
+accepts : (t : List ℕ) (vs : List ℤ) (replyRoom claimed : ℕ) → callNumber t vs replyRoom claimed ≡ 0 → Accepts t vs replyRoom claimed
 unfolding callNumber replyLimit lineLimit
 accepts t vs replyRoom claimed e = go (sound t) (valuesSound t vs) (leb 64 replyRoom) (leb claimed 64) refl refl refl refl e
   where
@@ -55,3 +58,18 @@ accepts t vs replyRoom claimed e = go (sound t) (valuesSound t vs) (leb 64 reply
     go true true false d p q r s e = absurd (omega arith)
     go true false c d p q r s e = absurd (omega arith)
     go false b c d p q r s e = absurd (omega arith)
+
+module _ (t : List ℕ) (vs : List ℤ) (replyRoom claimed n : ℕ) (e : n ≡ callNumber t vs replyRoom claimed) (z : n ≡ 0) where
+  pub none-table : sound t ≡ true
+  none-table = accepts t vs replyRoom claimed (sym e ∙ z) .0
+
+  pub none-values : valuesSound t vs ≡ true
+  none-values = accepts t vs replyRoom claimed (sym e ∙ z) .1
+
+  pub none-buffer : 64 ≤ replyRoom
+  none-buffer = accepts t vs replyRoom claimed (sym e ∙ z) .2
+
+  pub none-claim : claimed ≤ 64
+  none-claim = accepts t vs replyRoom claimed (sym e ∙ z) .3
+
+pub ruleset none-told = (none-table, none-values, none-buffer, none-claim)

@@ -23,7 +23,7 @@ use Rattle.serial_port.specs.Call.{Answers, finish}
 use Rattle.refusal.specs.Refusal.{callNumber, replyLimit}
 use Rattle.serial_port.specs.Call.Finishing.{Finishes}
 use Rattle.refusal.specs.Refusal.Laws.{accepted}
-use Rattle.refusal.specs.Refusal.Telling.{accepts}
+use Rattle.refusal.specs.Refusal.Telling.{none-told}
 use Rattle.serial_port.specs.Call.Rules.{returns-refused, returns-waiting, returns-finished}
 use Rattle.serial_port.specs.declared.port.Port.{Port}
 use Rattle.text.specs.Cut.Laws.{index-within}
@@ -35,20 +35,7 @@ module _ (t : List ℕ) (vs : List ℤ) (p : Port) (bs buffer : List ℕ) (n : �
   pub taken-refused : (n ≡ 0 → ⊥) → Answers t vs p bs buffer (record { port = p; consumed = 0; sent = 0; number = n }) vs buffer
   taken-refused h = returns-refused t vs p bs buffer n (sym e) h
 
-module _ (t : List ℕ) (vs : List ℤ) (replyRoom claimed n : ℕ) (e : n ≡ callNumber t vs replyRoom claimed) (z : n ≡ 0) where
-  pub taken-table : sound t ≡ true
-  taken-table = accepts t vs replyRoom claimed (sym e ∙ z) .0
-
-  pub taken-values : valuesSound t vs ≡ true
-  taken-values = accepts t vs replyRoom claimed (sym e ∙ z) .1
-
-  pub taken-buffer : 64 ≤ replyRoom
-  taken-buffer = accepts t vs replyRoom claimed (sym e ∙ z) .2
-
-  pub taken-claim : claimed ≤ 64
-  taken-claim = accepts t vs replyRoom claimed (sym e ∙ z) .3
-
-pub ruleset taking = (taken-refused, taken-table, taken-values, taken-buffer, taken-claim)
+pub ruleset taking = (taken-refused, none-told)
 
 -- ---- a call that is served
 
