@@ -30,6 +30,5 @@ unfoldable pub answer : List ℕ → List ℤ → List ℕ → Answer
 answer t vs line = act t vs (meaning t vs line)
 
 -- what answering a line leaves: the reply first in its buffer with every byte behind it as it was, its length as the answer, and the values
-pub record Answers (t : List ℕ) (vs : List ℤ) (line buffer : List ℕ) (sent : ℕ) (vs′ : List ℤ) (buffer′ : List ℕ) : Type 0 where
-  pub reply : Wrote buffer 0 (answer t vs line .reply) sent buffer′
-  pub values : vs′ ≡ answer t vs line .values
+pub data Answers (t : List ℕ) (vs : List ℤ) (line buffer : List ℕ) (sent : ℕ) (vs′ : List ℤ) (buffer′ : List ℕ) : Type 0 where
+  answers : (reply : Wrote buffer 0 (answer t vs line .reply) sent buffer′) → (values : vs′ ≡ answer t vs line .values) → Answers t vs line buffer sent vs′ buffer′

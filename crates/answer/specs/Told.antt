@@ -24,7 +24,8 @@ use Rattle.answer.specs.Said.Texts.{reply-back, reply-short, reply-lacks
 use Rattle.meaning.specs.Meaning.{meaning}
 use Rattle.meaning.specs.Meaning.Laws.{puts-back}
 use Rattle.name.specs.Name.{name}
-use Rattle.reply.specs.Reply.{replyText, getReply}
+use Rattle.reply.specs.Reply.{getReply}
+use Rattle.value_written.specs.Text.{replyText}
 use Rattle.answer.specs.Said.Naming.{Reached, reached, naming, Parts, parts-put, reached-sized, naming-short, naming-parts, rest, naming-rest, rest-no-return, verb-no-return}
 use Rattle.value_text.specs.declared.ValueText.the-variants.{Value}
 use Rattle.meaning.specs.declared.Meaning.the-variants.{Put}

@@ -11,7 +11,7 @@ use lib.ListN.{replicate, set}
 use Rattle.text.specs.Cut.{indexOf, has, before, after}
 use Rattle.text.specs.Digits.{isDigit, allDigits, readOn, numberOf, digitsWithin, digits}
 use Rattle.level.specs.Level.{signed, levelTenth, levelPoint, levelMore, levelWhole, readLevel}
-use Rattle.text.specs.Number.{numberForm, readNumber}
+use Rattle.number.specs.Number.{numberForm, readNumber}
 use Rattle.text.specs.Switch.{switchLetter, readSwitch, switchText}
 use Rattle.catalogue.specs.Catalogue.{minus, level, switch, number, catalogue, rowsIn, rowsOf}
 use Rattle.row.specs.Row.{permitted, sameIndices}
@@ -24,7 +24,8 @@ use Rattle.index_part.specs.IndexPart.{oneGroup, twoGroups, groups, readIndices
 use Rattle.value_text.specs.Value.{ofLevel, ofNumber, ofSwitch, readKind, onlyPermitted, readValue}
 use Rattle.meaning.specs.Meaning.{indexed, inModule, inRoom, putOf, getOf, setOf, ofShape, meaning}
 use Rattle.name.specs.Name.{indexText, name}
-use Rattle.reply.specs.Reply.{replyText, getReply}
+use Rattle.reply.specs.Reply.{getReply}
+use Rattle.value_written.specs.Text.{replyText}
 use Rattle.acknowledgement.specs.Acknowledgement.{ack, nak}
 use Rattle.answer.specs.Answer.{Answer, act, answer}
 use Rattle.values.specs.Values.{equal}

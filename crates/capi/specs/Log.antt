@@ -6,10 +6,10 @@ use Prim.Native.Nat.{ℕ, _-_}
 use borrow.Author.Tests.{eq-eqb, ne-eqb}
 use lib.Dec.{eqb}
 use lib.ListN.{length}
-use Rattle.log.specs.Log.{logPart}
+use Rattle.log_part.specs.LogPart.{logPart}
 use Rattle.log.specs.Log.Lending.{table-order, line-order}
-use Rattle.log.specs.declared.LogPart.{LogPart}
-use Rattle.log.specs.declared.LogPart.the-variants.{Table, Line, Nothing}
+use Rattle.log_part.specs.declared.LogPart.{LogPart}
+use Rattle.log_part.specs.declared.LogPart.the-variants.{Table, Line, Nothing}
 use Rattle.told.specs.Told.{misLent}
 
 -- 1 for the table or 0 for the line, the start of the part, and its length

@@ -1,7 +1,7 @@
 // The library's calls for C: each is thin over the proved library, and none asks anything of its caller.
 use lent::port_lent;
-use log::LogPart;
-use log::log_part;
+use log_part::LogPart;
+use log_part::log_part;
 use port_call::call_port;
 use restore::restore;
 use room::table::check;

@@ -21,7 +21,8 @@ use Rattle.label.specs.Label.{label, same, bearersIn, exactlyOne, bearer}
 use Rattle.parameter.specs.Parameters.{numbered, parametersOf, parametersIn, parameters}
 use Rattle.values.specs.Values.{eachPermitted, valuesSound, equal}
 use Rattle.name.specs.Name.{indexText, name}
-use Rattle.say.specs.Say.{setText, say}
+use Rattle.say.specs.Say.{say}
+use Rattle.value_written.specs.Text.{setText}
 use Rattle.answer.specs.Worked as reading
 use Rattle.answer.specs.Worked.{oneByteRecord, tableA, zeros, bytes}
 use Rattle.wish.specs.Target.{atMostOne, selectionRight, chosen, chosenPermitted, wantedRight, targetOf, target}

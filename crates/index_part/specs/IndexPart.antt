@@ -5,9 +5,9 @@ use mathlib.Core.List.{List, [], _∷_}
 use Prim.Native.Nat.{ℕ}
 use lib.Dec.{eqb}
 use Rattle.text.specs.Cut.{has, before, after}
-use Rattle.text.specs.Number.{readNumber}
-use Rattle.text.specs.declared.number.Number.{Number}
-use Rattle.text.specs.declared.number.Number.the-variants as read
+use Rattle.number.specs.Number.{readNumber}
+use Rattle.number.specs.declared.Number.{Number}
+use Rattle.number.specs.declared.Number.the-variants as read
 use Rattle.row.specs.declared.Indices.the-variants.{OneGroup, TwoGroups}
 use Rattle.index_part.specs.declared.IndexPart.{IndexPart}
 use Rattle.index_part.specs.declared.IndexPart.the-variants.{Right, Wrong}

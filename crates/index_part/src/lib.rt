@@ -1,10 +1,10 @@
 // The index part of a line.
+use number::Number;
+use number::read_number;
 use row::Indices;
 use text::cut::find;
-use text::number::Number;
-use text::number::read_number;
 ghost use mathlib.Core.Path.{_≡_};
-ghost use Rattle.text.specs.Number.{readNumber};
+ghost use Rattle.number.specs.Number.{readNumber};
 ghost use Rattle.index_part.specs.IndexPart.{groups, oneGroup, readIndices, twoGroups};
 
 pub enum IndexPart {

@@ -3,6 +3,7 @@ use mathlib.Core.Path.{_≡_, _∙_, ap}
 use mathlib.Core.Bool.{true, false}
 use mathlib.Core.List.{List, [], _∷_, append-nil}
 use Prim.Native.Nat.{ℕ, _+_, _/_, _%_, _≤_}
+use native.Mathlib.Omega.{arith}
 use lib.IntN.{ℤ, pos, natAbs}
 use lib.ListN.{length}
 use lib.Signed.{ltZ}
@@ -14,8 +15,7 @@ use Rattle.level.specs.Level.{signText, tenthText, shortTenthText, wholeText, l
 use Rattle.level.specs.Level.Sign.{kept, sign-minus, sign-none}
 use Rattle.level.specs.Level.Told.{short-none, short-some, tenth-long}
 use Rattle.written.specs.Written.{Wrote}
-use Rattle.written.specs.Written.Laws.{wrote-nothing, wrote-join}
-use Rattle.written.specs.Written.Laws.{room-first, room-second}
+use Rattle.written.specs.Written.Laws.{past-by, room-first, room-second, wrote-join, wrote-length, wrote-nothing}
 
 module _ (v : ℤ) (at : ℕ) (f : SFits w64 v) where
   pub sign-room : (long : ℕ) → ltZ (kept v) (pos 0) ≡ true → at + length (signText v) ≤ long → at + 1 ≤ long
@@ -32,6 +32,11 @@ pub ruleset sign-writing = (sign-room, wrote-minus, wrote-no-sign)
 pub wrote-tenth : (l : List ℕ) (at d j r : ℕ) (m k : List ℕ) → Wrote l at (46 ∷ []) j m → Wrote m j ((48 + d) ∷ []) r k → Wrote l at (tenthText d) r k
 unfolding tenthText
 wrote-tenth l at d j r m k a b = wrote-join a b
+
+pub digit-room : (l : List ℕ) (b at j : ℕ) (m : List ℕ) → at + 2 ≤ length l → Wrote l at (b ∷ []) j m → j + 1 ≤ length m
+digit-room l b at j m h w = omega (arith, past-by w, wrote-length w)
+
+pub ruleset tenth-writing = (digit-room, wrote-tenth)
 
 pub whole-first : (v : ℤ) (at long : ℕ) → at + length (wholeText v) ≤ long → at + length (signText v) ≤ long
 unfolding wholeText

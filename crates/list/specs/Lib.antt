@@ -1,2 +1,3 @@
--- The restore list as it is written.
-pub mod Writing
+-- The restore list as it is written: rules for one module, and for the whole list.
+pub mod OneModule
+pub mod Whole

@@ -1,81 +1,18 @@
 // How long the restore list is, and whether every wanted change is within reach.
 use body::body_length;
 use catalogue::row_count;
-use catalogue_row::row_of;
-use label::Bearer;
-use label::find_bearer;
 use label::label_length;
-use parameter::Parameter;
+use module_list::measuring::Measured;
+use module_list::measuring::borne_once;
+use module_list::measuring::row_lines;
 use room::table::Module;
-use say::say_line_length;
-ghost use mathlib.Core.Bool.{true};
 ghost use mathlib.Core.Path.{_≡_};
-ghost use Prim.Native.Nat.{_+_, _≤_};
+ghost use Prim.Native.Nat.{_+_};
 ghost use lib.ListN.{length};
-ghost use Rattle.catalogue.specs.Catalogue.{known, numbers, rowsOf};
-ghost use Rattle.label.specs.Label.{bearer, label};
-ghost use Rattle.room.specs.Table.{sound};
-ghost use Rattle.listing.specs.Listing.{Admitted, borneOnce, changes};
-ghost use Rattle.measure.specs.Measuring.{Measures, Settles, Standing, measured, moduleChanges, rowChanges, valuesOf};
-
-// The bytes and the lines of the list, or that a wanted change is beyond reach.
-pub enum Measured {
-    Within(usize, usize),
-    Beyond,
-}
-
-// The changes of a module's rows: beyond reach where a row that changes is read-only.
-fn row_lines(
-    table: &[u8],
-    rows: &[[i32; 8]; 50],
-    m: Module,
-    size: usize,
-    present: &[i64],
-    wanted: &[i64],
-) -> Measured
-    requires { ⌜ (now rows ≡ numbers) × (known (m .kind) ≡ true) × (size ≡ length (label (now table) m)) ⌝ }
-    requires { ⌜ (length (now present) ≡ length (rowsOf (m .kind))) × (length (now wanted) ≡ length (rowsOf (m .kind))) ⌝ }
-    ensures { λ r. ⌜ Settles (now (table .entry)) (rowChanges m (now (present .entry)) (now (wanted .entry))) r ⌝ }
-{
-    let kind = m.kind;
-    let mut bytes = 0;
-    let mut lines = 0;
-    let mut j = 0;
-    while j < present.len() {
-        let number = j;
-        let from = present[number];
-        let to = wanted[number];
-        j += 1;
-        if from == to {
-            continue;
-        }
-        let row = row_of(rows, kind, number);
-        if !row.settable {
-            return Measured::Beyond;
-        }
-        let p = Parameter {
-            owner: m,
-            number,
-            row,
-        };
-        bytes += say_line_length(table, p, size, from, to);
-        lines += 1;
-    }
-    Measured::Within(bytes, lines)
-}
-
-// Whether a module alone bears its label.
-fn borne_once(table: &[u8], m: Module, size: usize) -> bool
-    requires { ⌜ (sound (now table) ≡ true) × (m .place + 33 ≤ length (now table)) × (size ≡ length (label (now table) m)) ⌝ }
-    ensures { λ r. ⌜ r ≡ borneOnce (bearer (now (table .entry)) (label (now (table .entry)) m)) ⌝ }
-{
-    let start = m.place + 1;
-    let end = start + size;
-    match find_bearer(table, &table[start..end]) {
-        Bearer::Only(_) => true,
-        Bearer::NotOne => false,
-    }
-}
+ghost use Rattle.catalogue.specs.Catalogue.{numbers};
+ghost use Rattle.label.specs.Label.{label};
+ghost use Rattle.listing.specs.Listing.{Admitted, changes};
+ghost use Rattle.module_list.specs.Measuring.{Measures, Settles, Standing, measured, moduleChanges, rowChanges, valuesOf};
 
 // The changes of a module's rows, of the parts of the lists that are its own.
 fn module_lines(

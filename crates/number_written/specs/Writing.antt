@@ -10,7 +10,7 @@ use Rattle.text.specs.Digits.{digits}
 use Rattle.text.specs.Digits.Laws.{one-digit, more-digits, more-length, some-digits}
 use Rattle.text.specs.Switch.{switchText}
 use Rattle.written.specs.Written.{Wrote}
-use Rattle.written.specs.Written.Laws.{wrote-join, wrote-length}
+use Rattle.written.specs.Written.Laws.{wrote-join, wrote-length, past-by}
 
 -- ---- switches
 
@@ -53,7 +53,7 @@ pub last-room : (l : List ℕ) (at n j : ℕ) (m : List ℕ) → 10 ≤ n → at
 last-room l at n j m h r w =
     let e = more-length n h in
     let f = wrote-length w in
-    omega (arith, w .past)
+    omega (arith, past-by w)
 
 pub wrote-more : (l : List ℕ) (at n j r : ℕ) (m k : List ℕ) → 10 ≤ n → Wrote l at (digits (n / 10)) j m → Wrote m j ((48 + n % 10) ∷ []) r k
     → Wrote l at (digits n) r k

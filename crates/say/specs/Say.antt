@@ -2,20 +2,10 @@
 pub mod Writing
 use mathlib.Core.List.{List, _∷_, _++_}
 use Prim.Native.Nat.{ℕ}
-use lib.IntN.{ℤ, natAbs}
-use Rattle.text.specs.Digits.{digits}
-use Rattle.level.specs.Level.{levelText}
-use Rattle.text.specs.Switch.{switchText}
-use Rattle.row.specs.declared.Kind.{Kind}
-use Rattle.row.specs.declared.Kind.the-variants as kind
+use lib.IntN.{ℤ}
 use Rattle.parameter.specs.declared.Parameter.{Parameter}
 use Rattle.name.specs.Name.{name}
-
--- a value in a set line: a level in its shortest text, O or F and never T, a number without leading zeros
-unfoldable pub setText : Kind → ℤ → List ℕ
-setText kind.Level v = levelText v
-setText kind.Switch v = switchText (natAbs v)
-setText kind.Number v = digits (natAbs v)
+use Rattle.value_written.specs.Text.{setText}
 
 -- the line, without its 0D, that takes the parameter p from the present to the wanted value
 unfoldable pub say : List ℕ → Parameter → (present wanted : ℤ) → List ℕ

@@ -79,6 +79,7 @@ unfoldable pub tells : Called → (values : List ℤ) → (buffer : List ℕ) �
 tells c vs buffer = record { number = c .number; consumed = c .consumed; sent = c .sent; values = vs; buffer = buffer }
 
 -- the promise of the port call: what it tells, and the port that it hands back
-pub record Answers (t : List ℕ) (vs : List ℤ) (p : Port) (bs buffer : List ℕ) (c : Called) (vs′ : List ℤ) (buffer′ : List ℕ) : Type 0 where
-  pub told : tells c vs′ buffer′ ≡ call t vs p bs buffer
-  pub handed : Handed (callNumber t vs (length buffer) (p .len)) p (step (answer t) vs (view p) bs .port) (c .port)
+pub data Answers (t : List ℕ) (vs : List ℤ) (p : Port) (bs buffer : List ℕ) (c : Called) (vs′ : List ℤ) (buffer′ : List ℕ) : Type 0 where
+  answers : (told : tells c vs′ buffer′ ≡ call t vs p bs buffer)
+      → (handed : Handed (callNumber t vs (length buffer) (p .len)) p (step (answer t) vs (view p) bs .port) (c .port))
+      → Answers t vs p bs buffer c vs′ buffer′

@@ -1,9 +1,8 @@
--- What the contracts of `text` say: bytes, cutting at one, parts of lists, decimal digits, numbers and switches as text.
+-- What the contracts of `text` say: bytes, cutting at one, parts of lists, decimal digits, and switches as text.
 pub mod Byte
 pub mod Cut
 pub mod Digits
 pub mod Every
 pub mod Examples
-pub mod Number
 pub mod Part
 pub mod Switch

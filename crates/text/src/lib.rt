@@ -1,5 +1,4 @@
-// Numbers as text: cutting at a byte, decimal digits, number and switch texts.
+// Where a byte stands first, decimal digits, and switch texts.
 pub mod cut;
 pub mod digit;
-pub mod number;
 pub mod switch;

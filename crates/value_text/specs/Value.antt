@@ -5,13 +5,13 @@ use mathlib.Core.Bool.{cond}
 use mathlib.Core.List.{List}
 use lib.IntN.{ℤ, pos, _-ℤ_}
 use Rattle.level.specs.Level.{readLevel}
-use Rattle.text.specs.Number.{readNumber}
+use Rattle.number.specs.Number.{readNumber}
 use Rattle.text.specs.Switch.{readSwitch}
 use Prim.Native.Nat.{ℕ}
 use Rattle.level.specs.declared.Level.{Level}
 use Rattle.level.specs.declared.Level.the-variants as level
-use Rattle.text.specs.declared.number.Number.{Number}
-use Rattle.text.specs.declared.number.Number.the-variants as number
+use Rattle.number.specs.declared.Number.{Number}
+use Rattle.number.specs.declared.Number.the-variants as number
 use Rattle.text.specs.declared.switch.Switch.{Switch}
 use Rattle.text.specs.declared.switch.Switch.the-variants as switch
 use Rattle.row.specs.Row.{permitted}

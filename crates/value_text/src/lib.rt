@@ -1,11 +1,11 @@
 // The value text of a set line.
 use level::Level;
 use level::read_level;
+use number::Number;
+use number::read_number;
 use row::Kind;
 use row::Row;
 use row::permit::permits;
-use text::number::Number;
-use text::number::read_number;
 use text::switch::Switch;
 use text::switch::read_switch;
 ghost use mathlib.Core.Bool.{true};
@@ -13,7 +13,7 @@ ghost use mathlib.Core.Path.{_≡_};
 ghost use Prim.Native.Nat.{_<_, _^_};
 ghost use lib.Signed.{mag};
 ghost use Rattle.level.specs.Level.{readLevel};
-ghost use Rattle.text.specs.Number.{readNumber};
+ghost use Rattle.number.specs.Number.{readNumber};
 ghost use Rattle.text.specs.Switch.{readSwitch};
 ghost use Rattle.row.specs.Row.{permitted};
 ghost use Rattle.row.specs.Row.Laws.{RowFits};

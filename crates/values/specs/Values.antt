@@ -3,7 +3,6 @@ pub mod Each
 pub mod Few
 pub mod Fitting
 pub mod Laws
-pub mod Testing
 use mathlib.Core.Bool.{Bool, true, false, _&&_}
 use mathlib.Core.List.{List, [], _∷_}
 use Prim.Native.Nat.{ℕ}
@@ -12,7 +11,6 @@ use lib.IntN.{ℤ, pos, negsuc}
 use lib.ListN.{length}
 use Rattle.row.specs.Row.{permitted}
 use Rattle.parameter.specs.Parameters.{parameters}
-use Rattle.row.specs.declared.Row.{Row}
 use Rattle.parameter.specs.declared.Parameter.{Parameter}
 
 -- each entry is permitted for its row
@@ -20,12 +18,6 @@ unfoldable pub eachPermitted : List Parameter → List ℤ → Bool
 eachPermitted [] vs = true
 eachPermitted (p ∷ ps) [] = true
 eachPermitted (p ∷ ps) (v ∷ vs) = permitted (p .row) v && eachPermitted ps vs
-
--- the same of rows
-unfoldable pub rowsPermit : List Row → List ℤ → Bool
-rowsPermit [] vs = true
-rowsPermit (r ∷ rs) [] = true
-rowsPermit (r ∷ rs) (v ∷ vs) = permitted r v && rowsPermit rs vs
 
 -- two values are the same
 unfoldable pub equal : ℤ → ℤ → Bool

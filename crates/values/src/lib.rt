@@ -1,30 +1,12 @@
 // The value list: one value for each parameter.
 use body::body_length;
-use catalogue::first_row;
 use catalogue::row_count;
-use catalogue_row::row_permits;
+use module_values::module_fits;
 ghost use mathlib.Core.Bool.{true};
 ghost use mathlib.Core.Path.{_≡_};
-ghost use lib.ListN.{length};
-ghost use Rattle.catalogue.specs.Catalogue.{known, numbers, rowsOf};
+ghost use Rattle.catalogue.specs.Catalogue.{numbers};
 ghost use Rattle.room.specs.Table.{sound};
-ghost use Rattle.values.specs.Values.{rowsPermit, valuesSound};
-
-// Whether each value of a module is permitted for its row.
-pub fn module_fits(rows: &[[i32; 8]; 50], kind: u8, values: &[i64]) -> bool
-    requires { ⌜ (now rows ≡ numbers) × (known kind ≡ true) × (length (now values) ≡ length (rowsOf kind)) ⌝ }
-    ensures { λ r. ⌜ r ≡ rowsPermit (rowsOf kind) (now (values .entry)) ⌝ }
-{
-    let first = first_row(kind);
-    let mut j = 0;
-    while j < values.len() {
-        if !row_permits(rows, first + j, values[j]) {
-            return false;
-        }
-        j += 1;
-    }
-    true
-}
+ghost use Rattle.values.specs.Values.{valuesSound};
 
 // Whether a list has one entry for each parameter, and each is permitted.
 pub fn are_sound(table: &[u8], rows: &[[i32; 8]; 50], values: &[i64]) -> bool

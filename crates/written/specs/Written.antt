@@ -7,6 +7,5 @@ use lib.ListN.{length}
 use lib.Seq.{sets}
 
 -- `text` was written into `buffer` from `at` on; the answer is the place behind it
-pub record Wrote (buffer : List ℕ) (at : ℕ) (text : List ℕ) (answer : ℕ) (after : List ℕ) : Type 0 where
-  pub past : answer ≡ at + length text
-  pub bytes : after ≡ sets buffer at text
+pub data Wrote (buffer : List ℕ) (at : ℕ) (text : List ℕ) (answer : ℕ) (after : List ℕ) : Type 0 where
+  wrote : (past : answer ≡ at + length text) → (bytes : after ≡ sets buffer at text) → Wrote buffer at text answer after

@@ -19,9 +19,19 @@ use Rattle.meaning.specs.Meaning.{meaning}
 use Rattle.meaning.specs.Meaning.Laws.{Puts, Gets, names-place, names-label, put-told, get-told}
 use Rattle.reply.specs.Reply.{getReply}
 use Rattle.acknowledgement.specs.Acknowledgement.{ack, nak}
-use Rattle.answer.specs.Answer.{Answer, act, answer}
+use Rattle.written.specs.Written.{Wrote}
+use Rattle.answer.specs.Answer.{Answer, Answers, answers, act, answer}
 use Rattle.meaning.specs.declared.Meaning.{Meaning}
 use Rattle.meaning.specs.declared.Meaning.the-variants.{Code, Get, Put}
+
+-- ---- the two parts of the promise
+
+module _ {t : List ℕ} {vs : List ℤ} {line buffer : List ℕ} {sent : ℕ} {vs′ : List ℤ} {buffer′ : List ℕ} where
+  pub reply-by : Answers t vs line buffer sent vs′ buffer′ → Wrote buffer 0 (answer t vs line .reply) sent buffer′
+  reply-by (answers reply values) = reply
+
+  pub values-by : Answers t vs line buffer sent vs′ buffer′ → vs′ ≡ answer t vs line .values
+  values-by (answers reply values) = values
 
 -- what a line may do
 pub data Effect (t : List ℕ) (vs : List ℤ) (line : List ℕ) : Type 0 where

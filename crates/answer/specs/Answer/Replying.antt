@@ -29,7 +29,7 @@ use Rattle.shape.specs.declared.Shape.the-variants as shape
 use Rattle.index_part.specs.declared.IndexPart.{IndexPart}
 use Rattle.value_text.specs.declared.ValueText.{ValueText}
 use Rattle.value_text.specs.declared.ValueText.the-variants as value
-use Rattle.answer.specs.Answer.{Answers, act}
+use Rattle.answer.specs.Answer.{Answers, answers, act}
 use Rattle.answer.specs.Answer.Laws.{answered, gets-place, puts-place}
 use Rattle.answer.specs.Answer.Replies.{gets-label, reply-limit}
 use Rattle.meaning.specs.Meaning.{Target, target, code, getOf, inModule, inRoom, indexed, meaning, ofShape, putOf, setOf}
@@ -139,18 +139,18 @@ module _ (t : List ℕ) (vs : List ℤ) (line : List ℕ) (m : Meaning) (e : m �
     unfolding act
     answers-code n h w =
         let a = answered t vs line (Code n) (sym e ∙ h) in
-        record { reply = rw a w; values = sym (ap (λ b. b .values) a) }
+        answers (rw a w) (sym (ap (λ b. b .values) a))
 
     pub answers-get : (p : Parameter) → m ≡ Get p → Wrote buffer 0 (getReply t p (getD vs (place p) (pos 0))) r buffer′ → Answers t vs line buffer r vs buffer′
     unfolding act
     answers-get p h w =
         let a = answered t vs line (Get p) (sym e ∙ h) in
-        record { reply = rw a w; values = sym (ap (λ b. b .values) a) }
+        answers (rw a w) (sym (ap (λ b. b .values) a))
 
     pub answers-put : (p : Parameter) (x : ℤ) (vs′ : List ℤ) → m ≡ Put p x → Wrote buffer 0 ack r buffer′ → vs′ ≡ set vs (place p) x → Answers t vs line buffer r vs′ buffer′
     unfolding act
     answers-put p x vs′ h w k =
         let a = answered t vs line (Put p x) (sym e ∙ h) in
-        record { reply = rw a w; values = k ∙ sym (ap (λ b. b .values) a) }
+        answers (rw a w) (k ∙ sym (ap (λ b. b .values) a))
 
 pub ruleset answering = (code-below, get-tellable, put-within, answers-code, answers-get, answers-put)

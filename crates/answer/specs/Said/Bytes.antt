@@ -15,7 +15,8 @@ use Rattle.row.specs.declared.Indices.{Indices}
 use Rattle.row.specs.declared.Indices.the-variants.{OneGroup, TwoGroups}
 use Rattle.parameter.specs.declared.Parameter.{Parameter}
 use Rattle.name.specs.Name.{indexText, name}
-use Rattle.say.specs.Say.{setText, say}
+use Rattle.say.specs.Say.{say}
+use Rattle.value_written.specs.Text.{setText}
 use Rattle.answer.specs.Said.Texts.{text-bytes}
 
 byte-first : (b : ℕ) (s : List ℕ) → isByte b ≡ true → every isByte s ≡ true → every isByte (b ∷ s) ≡ true

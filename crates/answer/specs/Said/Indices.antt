@@ -10,11 +10,11 @@ use lib.ListN.{length, length-append}
 use Rattle.text.specs.Cut.{indexOf, has, before, after}
 use Rattle.text.specs.Cut.Lacking.{lacks-cons, lacks-append, has-not, has-joined, before-joined, after-joined, parted}
 use Rattle.text.specs.Digits.{isDigit, digits}
-use Rattle.text.specs.Number.{readNumber}
-use Rattle.text.specs.Number.Laws.{number-back, number-shortest}
+use Rattle.number.specs.Number.{readNumber}
+use Rattle.number.specs.Number.Laws.{number-back, number-shortest}
 use Rattle.level.specs.ValueBytes.{valueByte, digits-bytes, no-other}
-use Rattle.text.specs.declared.number.Number.{Number}
-use Rattle.text.specs.declared.number.Number.the-variants as read
+use Rattle.number.specs.declared.Number.{Number}
+use Rattle.number.specs.declared.Number.the-variants as read
 use Rattle.text.specs.Every.{both-left, both-right}
 use Rattle.catalogue.specs.Catalogue.Sized.{sizedIndices}
 use Rattle.row.specs.declared.Indices.{Indices}

@@ -28,7 +28,8 @@ use Rattle.name.specs.Name.{name}
 use Rattle.acknowledgement.specs.Acknowledgement.{ack}
 use Rattle.answer.specs.Answer.{act, answer}
 use Rattle.answer.specs.Answer.Laws.{Puttable, answered}
-use Rattle.say.specs.Say.{setText, say}
+use Rattle.say.specs.Say.{say}
+use Rattle.value_written.specs.Text.{setText}
 use Rattle.answer.specs.Said.Naming.{Reached, reached, naming, parts-put, reached-sized, naming-short, naming-parts, rest, naming-rest, rest-no-return, verb-no-return}
 use Rattle.meaning.specs.declared.Meaning.the-variants.{Put}
 

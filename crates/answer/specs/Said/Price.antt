@@ -19,7 +19,8 @@ use Rattle.answer.specs.Said.Texts.{text-shortest}
 use Rattle.meaning.specs.Meaning.{meaning}
 use Rattle.meaning.specs.Meaning.Laws.{Names, put-told}
 use Rattle.name.specs.Name.{indexText}
-use Rattle.say.specs.Say.{setText, say}
+use Rattle.say.specs.Say.{say}
+use Rattle.value_written.specs.Text.{setText}
 use Rattle.answer.specs.Said.Naming.{naming}
 use Rattle.answer.specs.Said.Laws.{say-naming}
 use Rattle.meaning.specs.declared.Meaning.the-variants.{Put}

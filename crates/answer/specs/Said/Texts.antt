@@ -12,23 +12,22 @@ use Rattle.text.specs.Digits.Value.{digits-short}
 use Rattle.text.specs.Every.{every}
 use Rattle.level.specs.Level.{readLevel, levelText, oneDecimalText}
 use Rattle.level.specs.Level.Laws.{level-at-most-five, decimal-at-most-five, level-shortest, level-back, decimal-back}
-use Rattle.text.specs.Number.{readNumber}
-use Rattle.text.specs.Number.Laws.{number-back, number-shortest}
+use Rattle.number.specs.Number.{readNumber}
+use Rattle.number.specs.Number.Laws.{number-back, number-shortest}
 use Rattle.text.specs.Switch.{readSwitch, switchText}
 use Rattle.text.specs.Switch.Laws.{off-back, on-back, switch-one, switch-length}
 use Rattle.level.specs.ValueBytes.{valueByte, digits-bytes, level-bytes, decimal-bytes, switch-bytes, no-other}
 use Rattle.level.specs.declared.Level.{Level}
 use Rattle.level.specs.declared.Level.the-variants as level
-use Rattle.text.specs.declared.number.Number.{Number}
-use Rattle.text.specs.declared.number.Number.the-variants as number
+use Rattle.number.specs.declared.Number.{Number}
+use Rattle.number.specs.declared.Number.the-variants as number
 use Rattle.text.specs.declared.switch.Switch.{Switch}
 use Rattle.text.specs.declared.switch.Switch.the-variants as switch
 use Rattle.catalogue.specs.Catalogue.Sized.{Sized}
 use Rattle.catalogue.specs.Catalogue.Sized as row
 use Rattle.row.specs.declared.Kind.{Kind}
 use Rattle.row.specs.declared.Kind.the-variants as kind
-use Rattle.reply.specs.Reply.{replyText}
-use Rattle.say.specs.Say.{setText}
+use Rattle.value_written.specs.Text.{replyText, setText}
 use Rattle.value_text.specs.Value.{ofLevel, ofNumber, ofSwitch, readKind}
 use Rattle.value_text.specs.Value.Laws.{wrong-value}
 use Rattle.value_text.specs.declared.ValueText.the-variants.{Value}

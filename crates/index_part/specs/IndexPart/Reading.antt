@@ -8,9 +8,9 @@ use borrow.Author.Tests.{eq-eqb, ne-eqb, lt-ltb, le-ltb}
 use lib.ListN.{length, getD, take, drop, length-take, length-drop}
 use lib.Seq.{take-all}
 use Rattle.text.specs.Cut.{indexOf, has, before, after}
-use Rattle.text.specs.Number.{readNumber}
-use Rattle.text.specs.declared.number.Number.{Number}
-use Rattle.text.specs.declared.number.Number.the-variants as read
+use Rattle.number.specs.Number.{readNumber}
+use Rattle.number.specs.declared.Number.{Number}
+use Rattle.number.specs.declared.Number.the-variants as read
 use Rattle.row.specs.declared.Indices.the-variants.{OneGroup, TwoGroups}
 use Rattle.index_part.specs.IndexPart.{oneGroup, twoGroups, groups, readIndices}
 use Rattle.index_part.specs.declared.IndexPart.{IndexPart}

@@ -19,6 +19,7 @@ use Rattle.serial_port.specs.declared.port.Called.{Called}
 use Rattle.lent.specs.Port.{Left, PortCalled, Stores, bytesOf, counted, portAnswer, portLent, portNumber, portOf, portTells}
 use Rattle.lent.specs.Port.Lending.{lent-facts}
 use Rattle.told.specs.Told.{misLent}
+use Rattle.serial_port.specs.Call.Laws.{told-by, handed-by}
 
 -- ---- the stored port is seen as the port
 
@@ -63,7 +64,7 @@ left-same (suc n) port v h = refl
 module _ (t : List ℕ) (vs : List ℤ) (port given reply : List ℕ) (p : Port) (c : Called) (vs′ : List ℤ) (reply′ : List ℕ) (e : p ≡ portOf port)
     (a : Answers t vs p given reply c vs′ reply′) where
   told-is : tells c vs′ reply′ ≡ call t vs (portOf port) given reply
-  told-is = rw e at (a .told)
+  told-is = rw e at (told-by a)
 
   number-is : callNumber t vs (length reply) (portOf port .len) ≡ c .number
   unfolding call tells
@@ -73,7 +74,7 @@ module _ (t : List ℕ) (vs : List ℤ) (port given reply : List ℕ) (p : Port)
       ∙ tell-number (callNumber t vs (length reply) (portOf port .len)) vs reply (step (answer t) vs (view (portOf port)) given))
 
   handed-is : c .number ≡ 0 → Handed 0 (portOf port) (step (answer t) vs (view (portOf port)) given .port) (c .port)
-  handed-is z = let h = rw e at (a .handed) in rw (number-is ∙ z) at h
+  handed-is z = let h = rw e at (handed-by a) in rw (number-is ∙ z) at h
 
   pub served-few : c .number ≡ 0 → c .port .len ≤ 64
   unfolding lineLimit

@@ -1,6 +1,6 @@
 -- `put_tenth`: a point, and the digit behind it.
 use borrow.Author.Needs.{needs}
-use Rattle.level_written.specs.Writing.{wrote-tenth}
+use Rattle.level_written.specs.Writing.{tenth-writing}
 use Rattle.level_written.proofs.put_tenth.Statement.{statement}
 use Rattle.level_written.proofs.put_tenth.Tie as tie
 
@@ -11,6 +11,6 @@ put-tenth-spec =
     (λ c κs. search needs)
     (λ c. search needs)
     (λ c. search needs)
-    (λ c κs. search needs)
+    (λ c κs. search (tenth-writing, needs))
     (λ c. search needs)
-    (λ c. search (wrote-tenth, needs)))
+    (λ c. search (tenth-writing, needs)))

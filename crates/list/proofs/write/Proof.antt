@@ -3,7 +3,7 @@ use Prim.Native.Nat.{_-_}
 use borrow.Author.Needs.{needs}
 use lib.ListN.{length}
 use Rattle.room.specs.Table.Walk.{walking}
-use Rattle.list.specs.Writing.Whole.{Puts, putting}
+use Rattle.list.specs.Whole.{Puts, putting}
 use Rattle.list.proofs.write.Statement.{statement}
 use Rattle.list.proofs.write.Tie as tie
 

@@ -1,8 +1,8 @@
 -- `write_module`: the parts handed on are the module's own.
 use borrow.Author.Needs.{needs}
 use Rattle.label.specs.Label.Length.{label-long}
-use Rattle.measure.specs.Measuring.Part.{parting}
-use Rattle.list.specs.Writing.OneModule.{chosen-room, module-putting}
+use Rattle.module_list.specs.Measuring.Part.{parting}
+use Rattle.list.specs.OneModule.{chosen-room, module-putting}
 use Rattle.list.proofs.write_module.Statement.{statement}
 use Rattle.list.proofs.write_module.Tie as tie
 

@@ -12,11 +12,12 @@ use Rattle.label.specs.Label.{bearer}
 use Rattle.room.specs.Table.{sound}
 use Rattle.label.specs.declared.Bearer.{Bearer}
 use Rattle.label.specs.declared.Bearer.the-variants.{Only, NotOne}
-use Rattle.log.specs.Log.{firstQuote, secondQuote, shown, logPart, partOf, partShown, logLabel}
-use Rattle.log.specs.Log.Showing.{label-room}
+use Rattle.log.specs.Log.{partOf, partShown, logLabel}
+use Rattle.log_part.specs.LogPart.{firstQuote, secondQuote, shown, logPart}
+use Rattle.log_part.specs.LogPart.Showing.{label-room}
 use Rattle.shape.specs.Shape.{firstFrom, part}
-use Rattle.log.specs.declared.LogPart.{LogPart}
-use Rattle.log.specs.declared.LogPart.the-variants.{Table, Line, Nothing}
+use Rattle.log_part.specs.declared.LogPart.{LogPart}
+use Rattle.log_part.specs.declared.LogPart.the-variants.{Table, Line, Nothing}
 
 -- ---- within
 

@@ -3,7 +3,7 @@ use Prim.Native.Nat.{_-_}
 use borrow.Author.Needs.{needs}
 use lib.ListN.{length}
 use Rattle.room.specs.Table.Walk.{walking}
-use Rattle.measure.specs.Measuring.Whole.{Sums, summing}
+use Rattle.measure.specs.Whole.{Sums, summing}
 use Rattle.measure.proofs.measure.Statement.{statement}
 use Rattle.measure.proofs.measure.Tie as tie
 

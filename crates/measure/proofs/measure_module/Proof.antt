@@ -1,7 +1,7 @@
 -- `measure_module`: the rows are measured, and the label is sought where one changes.
 use borrow.Author.Needs.{needs}
 use Rattle.label.specs.Label.Length.{label-long}
-use Rattle.measure.specs.Measuring.OneModule.{module-measuring}
+use Rattle.measure.specs.OneModule.{module-measuring}
 use Rattle.measure.proofs.measure_module.Statement.{statement}
 use Rattle.measure.proofs.measure_module.Tie as tie
 

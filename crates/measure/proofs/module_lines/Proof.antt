@@ -1,6 +1,6 @@
 -- `module_lines`: the parts handed on are the module's own.
 use borrow.Author.Needs.{needs}
-use Rattle.measure.specs.Measuring.Part.{parting}
+use Rattle.module_list.specs.Measuring.Part.{parting}
 use Rattle.measure.proofs.module_lines.Statement.{statement}
 use Rattle.measure.proofs.module_lines.Tie as tie
 

@@ -16,11 +16,20 @@ use Rattle.answer.specs.Answer.{answer}
 use Rattle.answer.specs.Answer.Replies.{reply-limit}
 use Rattle.serial_port.specs.Port.{View, held, over, view, Same, claim, join}
 use Rattle.serial_port.specs.Port.Laws.{join-nothing, same-seen, seen-same}
-use Rattle.serial_port.specs.Call.{Answering, step, replied, waiting, finish, call, Handed, Answers}
+use Rattle.serial_port.specs.Call.{Answering, step, replied, waiting, finish, call, tells, Handed, Answers, answers}
 use Rattle.refusal.specs.Refusal.{replyLimit, callNumber}
 use Rattle.refusal.specs.Refusal.Laws.{refused-alike}
 use Rattle.serial_port.specs.declared.port.Port.{Port}
 use Rattle.serial_port.specs.declared.port.Called.{Called}
+
+-- ---- the two parts of the promise
+
+module _ {t : List ℕ} {vs : List ℤ} {p : Port} {bs buffer : List ℕ} {c : Called} {vs′ : List ℤ} {buffer′ : List ℕ} where
+  pub told-by : Answers t vs p bs buffer c vs′ buffer′ → tells c vs′ buffer′ ≡ call t vs p bs buffer
+  told-by (answers told handed) = told
+
+  pub handed-by : Answers t vs p bs buffer c vs′ buffer′ → Handed (callNumber t vs (length buffer) (p .len)) p (step (answer t) vs (view p) bs .port) (c .port)
+  handed-by (answers told handed) = handed
 
 -- the two kinds of call
 pub step-finishes : (answer : Answering) (vs : List ℤ) (v : View) (bs : List ℕ) → has 0x0D bs ≡ true
@@ -71,5 +80,5 @@ same-handed t vs p p′ bs buffer h k s c c′ vs′ vs″ buffer′ buffer″ a
     let number = callNumber t vs (length buffer) (p .len) in
     let seen = step (answer t) vs (view p) bs .port in
     let handed : Handed number p′ seen (c′ .port) =
-    rw (same-seen p p′ s, refused-alike t vs (length buffer) (p .len) (p′ .len) h k) (b .handed) in
-    handed-alike number seen p p′ (c .port) (c′ .port) s (a .handed) handed
+    rw (same-seen p p′ s, refused-alike t vs (length buffer) (p .len) (p′ .len) h k) (handed-by b) in
+    handed-alike number seen p p′ (c .port) (c′ .port) s (handed-by a) handed

@@ -18,16 +18,17 @@ use Rattle.values.specs.Values.{valuesSound}
 use Rattle.shape.specs.Shape.{lineLimit}
 use Rattle.answer.specs.Answer.{answer}
 use Rattle.serial_port.specs.Port.{view, fresh}
-use Rattle.serial_port.specs.Port.Collecting.{Collects}
+use Rattle.serial_port.specs.Port.Collecting.{Collects, seen-by, few-by}
 use Rattle.serial_port.specs.Call.{Answers, finish}
 use Rattle.refusal.specs.Refusal.{callNumber, replyLimit}
-use Rattle.serial_port.specs.Call.Finishing.{Finishes}
+use Rattle.serial_port.specs.Call.Finishing.{Finishes, finishes}
 use Rattle.refusal.specs.Refusal.Laws.{accepted}
 use Rattle.refusal.specs.Refusal.Telling.{none-told}
 use Rattle.serial_port.specs.Call.Rules.{returns-refused, returns-waiting, returns-finished}
 use Rattle.serial_port.specs.declared.port.Port.{Port}
 use Rattle.text.specs.Cut.Laws.{index-within}
 use Rattle.text.specs.Part.{part-counts}
+use Rattle.written.specs.Written.Laws.{past-by, bytes-by}
 
 -- ---- a call with its number
 
@@ -67,20 +68,19 @@ module _ (bs : List ℕ) (end : ℕ) (e : end ≡ indexOf 0x0D bs) where
     pub served-waiting : end ≡ length bs → Answers t vs p bs buffer (record { port = q; consumed = end; sent = 0; number = 0 }) vs buffer
     served-waiting w =
         let all : take end bs ≡ bs = rw (w, take-length) in
-        rw w (returns-waiting t vs p bs buffer q number (has-none w) (rw all at (c .seen)) (c .few))
+        rw w (returns-waiting t vs p bs buffer q number (has-none w) (rw all at (seen-by c)) (few-by c))
 
     pub served-finished : (n : ℕ) (vs′ : List ℤ) (buffer′ : List ℕ) (r : Port) → (end ≡ length bs → ⊥) → Finishes t vs q buffer n vs′ buffer′ → view r ≡ fresh
         → r .len ≡ 0 → Answers t vs p bs buffer (record { port = r; consumed = end + 1; sent = n; number = 0 }) vs′ buffer′
     unfolding lineLimit
-    served-finished n vs′ buffer′ r w f fr z =
-        let seen = rw line-before at (c .seen) in
-        let g = f .reply in
+    served-finished n vs′ buffer′ r w (finishes g v) fr z =
+        let seen = rw line-before at (seen-by c) in
         rw (add-one end, e)
         (returns-finished t vs p bs buffer r n vs′ buffer′ number (has-one w)
-        (rw seen at (g .past ∙ zero-add (length (finish (answer t) vs (view q) .reply)))) (rw seen at (f .values)) (rw seen at (g .bytes)) fr (omega arith))
+        (rw seen at (past-by g ∙ zero-add (length (finish (answer t) vs (view q) .reply)))) (rw seen at v) (rw seen at (bytes-by g)) fr (omega arith))
 
 pub served-few : (p : Port) (bs : List ℕ) (q : Port) → Collects p bs q → q .len ≤ 64
 unfolding lineLimit
-served-few p bs q c = c .few
+served-few p bs q c = few-by c
 
 pub ruleset serving = (part-counts, line-within, end-fits, served-waiting, served-finished, served-few)

@@ -15,7 +15,7 @@ use Rattle.serial_port.specs.Port.{view, fresh, join}
 use Rattle.serial_port.specs.Port.Laws.{claim-view, claim-join}
 use Rattle.serial_port.specs.Call.{step, finish, replied, waiting, tell, call, tells, Handed, Answers}
 use Rattle.refusal.specs.Refusal.{replyLimit}
-use Rattle.serial_port.specs.Call.Laws.{step-finishes, step-waits, written-first, reply-fits}
+use Rattle.serial_port.specs.Call.Laws.{step-finishes, step-waits, written-first, reply-fits, told-by, handed-by}
 use Rattle.refusal.specs.Refusal.Laws.{accepted}
 use Rattle.serial_port.specs.Play.{Played, ended, replyFirst, play, feed}
 use Rattle.serial_port.specs.Play.Feed.{finished, feed-nothing, feed-waits, feed-finishes}
@@ -68,8 +68,8 @@ module _ (t : List ℕ) (is-sound : sound t ≡ true) where
   unfolding call
   accept vs p bs c k r n a =
       let z = accepted t vs (length (c .buffer)) (p .len) is-sound r n k in
-      let h : Handed 0 p (step (answer t) vs (view p) bs .port) (c .answer .port) = rw z at (a .handed) in
-      record { seen = h .0; few = h .1; told = rw z at (a .told) }
+      let h : Handed 0 p (step (answer t) vs (view p) bs .port) (c .answer .port) = rw z at (handed-by a) in
+      record { seen = h .0; few = h .1; told = rw z at (told-by a) }
 
   -- what the calls of the rest do, after the call c
   abbrev Rest : Made → List Made → List ℕ → Type 0

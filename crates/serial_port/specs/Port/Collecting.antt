@@ -12,17 +12,24 @@ use Rattle.shape.specs.Shape.{lineLimit}
 use Rattle.serial_port.specs.Port.{view, fit, join}
 use Rattle.serial_port.specs.Port.Laws.{fit-short, fit-long}
 use Rattle.serial_port.specs.declared.port.Port.{Port}
+use Rattle.written.specs.Written.Laws.{past-by, bytes-by}
 
 -- the port q after bs were joined to the line of p: the longer line, and a claim of at most 64 bytes
-pub record Collects (p : Port) (bs : List ℕ) (q : Port) : Type 0 where
-  pub seen : view q ≡ join (view p) bs
-  pub few : q .len ≤ lineLimit
+pub data Collects (p : Port) (bs : List ℕ) (q : Port) : Type 0 where
+  collects : (seen : view q ≡ join (view p) bs) → (few : q .len ≤ lineLimit) → Collects p bs q
+
+module _ {p : Port} {bs : List ℕ} {q : Port} where
+  pub seen-by : Collects p bs q → view q ≡ join (view p) bs
+  seen-by (collects seen few) = seen
+
+  pub few-by : Collects p bs q → q .len ≤ lineLimit
+  few-by (collects seen few) = few
 
 module _ (p : Port) (bs : List ℕ) (few : p .len ≤ 64) where
   -- an overrun port reads on as overrun
   pub collects-over : p .overrun ≡ true → Collects p bs p
   unfolding view join lineLimit
-  collects-over o = record { seen = rw o refl; few = few }
+  collects-over o = collects (rw o refl) few
 
   module _ (o : p .overrun ≡ false) (long : length (p .held) ≡ 64) where
     joined : join (view p) bs ≡ fit (take (p .len) (p .held) ++ bs)
@@ -36,7 +43,7 @@ module _ (p : Port) (bs : List ℕ) (few : p .len ≤ 64) where
     pub collects-overrun : 64 - p .len < length bs → Collects p bs (record { held = p .held; len = p .len; overrun = true })
     unfolding view lineLimit
     collects-overrun h =
-        record { seen = sym (joined ∙ fit-long (take (p .len) (p .held) ++ bs) (omega (arith, size))); few = few }
+        collects (sym (joined ∙ fit-long (take (p .len) (p .held) ++ bs) (omega (arith, size)))) few
 
     whole : length bs ≤ 64 - p .len → take (p .len + length bs) (sets (p .held) (p .len) bs) ≡ take (p .len) (p .held) ++ bs
     whole h =
@@ -48,10 +55,9 @@ module _ (p : Port) (bs : List ℕ) (few : p .len ≤ 64) where
         → Collects p bs (record { held = after; len = end; overrun = false })
     unfolding view lineLimit
     collects-bytes end after h w =
-        record {
-          seen = rw (w .past, w .bytes, whole h) (sym (joined ∙ fit-short (take (p .len) (p .held) ++ bs) (omega (arith, size))));
-          few = rw (w .past) (omega arith);
-        }
+        collects
+        (rw (past-by w, bytes-by w, whole h) (sym (joined ∙ fit-short (take (p .len) (p .held) ++ bs) (omega (arith, size)))))
+        (rw (past-by w) (omega arith))
 
 -- ---- the array that holds the bytes
 

@@ -10,7 +10,7 @@ use lib.IntN.{ℤ}
 use lib.ListN.{length, take}
 use lib.Seq.{take-length}
 use Rattle.text.specs.Cut.{has, indexOf, before}
-use Rattle.written.specs.Written.{Wrote}
+use Rattle.written.specs.Written.{Wrote, wrote}
 use Rattle.room.specs.Table.{sound}
 use Rattle.values.specs.Values.{valuesSound}
 use Rattle.shape.specs.Shape.{lineLimit}
@@ -18,7 +18,7 @@ use Rattle.answer.specs.Answer.{answer}
 use Rattle.serial_port.specs.Port.{View, view, claim, join}
 use Rattle.serial_port.specs.Call.{Answering, Step, step, finish, replied, waiting, tell, call, tells, Handed, Answers}
 use Rattle.refusal.specs.Refusal.{replyLimit}
-use Rattle.serial_port.specs.Call.Laws.{step-finishes, step-waits, reply-fits}
+use Rattle.serial_port.specs.Call.Laws.{step-finishes, step-waits, reply-fits, told-by, handed-by}
 use Rattle.refusal.specs.Refusal.Laws.{accepted}
 use Rattle.serial_port.specs.Play.{Played, ended, replyFirst, feed}
 use Rattle.serial_port.specs.Play.Feed.{finished, feed-nothing, feed-waits, feed-first}
@@ -90,10 +90,10 @@ pub made : (t : List ℕ) (vs : List ℤ) (p : Port) (bs buffer : List ℕ) (c :
 unfolding call tells tell replyLimit lineLimit
 made t vs p bs buffer c vs′ buffer′ s r h k a =
     let z = accepted t vs (length buffer) (p .len) s r h k in
-    let handed : Handed 0 p (step (answer t) vs (view p) bs .port) (c .port) = rw z at (a .handed) in
-    let told = rw z at (a .told) in
+    let handed : Handed 0 p (step (answer t) vs (view p) bs .port) (c .port) = rw z at (handed-by a) in
+    let told = rw z at (told-by a) in
     record {
-      reply = record { past = ap (λ x. x .sent) told ∙ sym (zero-add (length (step (answer t) vs (view p) bs .reply))); bytes = ap (λ x. x .buffer) told };
+      reply = wrote (ap (λ x. x .sent) told ∙ sym (zero-add (length (step (answer t) vs (view p) bs .reply)))) (ap (λ x. x .buffer) told);
       values = ap (λ x. x .values) told;
       seen = handed .0;
       few = handed .1;

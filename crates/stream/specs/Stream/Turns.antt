@@ -13,7 +13,7 @@ use lib.Seq.{drop-drop}
 use mir.Syntax.{w64}
 use mir.Val.{Fits}
 use Rattle.written.specs.Written.{Wrote}
-use Rattle.written.specs.Written.Laws.{wrote-nothing, wrote-join, wrote-length, lent-wrote}
+use Rattle.written.specs.Written.Laws.{wrote-nothing, wrote-join, wrote-length, lent-wrote, past-by}
 use Rattle.room.specs.Table.{sound}
 use Rattle.values.specs.Values.{valuesSound}
 use Rattle.shape.specs.Shape.{lineLimit}
@@ -118,7 +118,7 @@ module _ (t : List ℕ) (vs : List ℤ) (p : Port) (bs out : List ℕ) where
           let v = view q in
           let long = length-drop at bs in
           let m = one-more t vs′ v (drop at bs) (length out - n) (rw long (omega arith)) (omega (arith, h .long)) in
-          let told : c .sent ≡ length (step (answer t) vs′ v (drop at bs) .reply) = done .reply .past ∙ zero-add (length (step (answer t) vs′ v (drop at bs) .reply)) in
+          let told : c .sent ≡ length (step (answer t) vs′ v (drop at bs) .reply) = past-by (done .reply) ∙ zero-add (length (step (answer t) vs′ v (drop at bs) .reply)) in
           let fuel : length bs - (at + c .consumed) ≡ length bs - at - c .consumed = omega arith in
           let left : length out - (n + c .sent) ≡ length out - n - c .sent = omega arith in
           let whole = h .rest ∙ ap (λ (k : ℕ). at + k) (rw long at m) in
@@ -130,7 +130,7 @@ module _ (t : List ℕ) (vs : List ℤ) (p : Port) (bs out : List ℕ) where
           let f = flow-more t vs p bs at vs′ q (h .values) (h .seen) (c .consumed) in
           let w = wrote-join (h .replies) wrote in
           let fits = step-fits t vs′ (view q) (drop at bs) (h .sounds) (h .right) in
-          let r-past = done .reply .past in
+          let r-past = past-by (done .reply) in
           record {
             sounds = h .sounds;
             given-fits = h .given-fits;
@@ -153,7 +153,7 @@ module _ (t : List ℕ) (vs : List ℤ) (p : Port) (bs out : List ℕ) where
       pub serving-end : Fits w64 (n + c .sent)
       serving-end =
           let fits = step-fits t vs′ (view q) (drop at bs) (h .sounds) (h .right) in
-          let r-past = done .reply .past in
+          let r-past = past-by (done .reply) in
           record { fits = omega (arith, serving-within, h .long, h .out-fits) }
 
     -- ---- the end

@@ -14,13 +14,13 @@ use mir.Syntax.{w64}
 use mir.Val.{SFits, toZ}
 use Rattle.level.specs.Level.{readLevel}
 use Rattle.level.specs.Level.Laws.{level-below}
-use Rattle.text.specs.Number.{readNumber}
-use Rattle.text.specs.Number.Laws.{number-below}
+use Rattle.number.specs.Number.{readNumber}
+use Rattle.number.specs.Number.Laws.{number-below}
 use Rattle.text.specs.Switch.{readSwitch}
 use Rattle.level.specs.declared.Level.{Level}
 use Rattle.level.specs.declared.Level.the-variants as level
-use Rattle.text.specs.declared.number.Number.{Number}
-use Rattle.text.specs.declared.number.Number.the-variants as number
+use Rattle.number.specs.declared.Number.{Number}
+use Rattle.number.specs.declared.Number.the-variants as number
 use Rattle.text.specs.declared.switch.Switch.{Switch}
 use Rattle.text.specs.declared.switch.Switch.the-variants as switch
 use Rattle.text.specs.Every.{both-left, both-right}

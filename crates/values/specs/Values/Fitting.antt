@@ -14,7 +14,8 @@ use Rattle.parameter.specs.Parameters.{numbered, parametersOf}
 use Rattle.parameter.specs.Parameters.Walk.{moduleHere}
 use Rattle.row.specs.Row.{permitted}
 use Rattle.body.specs.Body.{bodyLength}
-use Rattle.values.specs.Values.{eachPermitted, rowsPermit, valuesSound}
+use Rattle.values.specs.Values.{eachPermitted, valuesSound}
+use Rattle.module_values.specs.Permit.{rowsPermit}
 use Rattle.values.specs.Values.Each.{Each, Tests, each-all, each-next, each-short, each-start, each-wrong}
 use Rattle.row.specs.declared.Row.{Row}
 use Rattle.room.specs.declared.table.Module.{Module}

@@ -16,7 +16,7 @@ use Rattle.body.specs.Body.{bodyLength}
 use Rattle.room.specs.Table.Walk.{walk-numbered}
 use Rattle.parameter.specs.Parameters.{numbered, parametersOf}
 use Rattle.parameter.specs.Parameters.Walk.{moduleHere}
-use Rattle.values.specs.Values.{rowsPermit}
+use Rattle.module_values.specs.Permit.{rowsPermit}
 use Rattle.values.specs.Values.Each.{Each, Tests, each-all, each-next, each-short, each-start, each-wrong}
 use Rattle.room.specs.declared.table.Module.{Module}
 use Rattle.text.specs.Every.{both-left, every}

@@ -1,0 +1,2 @@
+-- The label for the log, by its place.
+pub mod LogPart

@@ -1,0 +1,2 @@
+-- Which values the rows of a module permit.
+pub mod Permit

@@ -1,0 +1,3 @@
+-- Number texts.
+pub mod Number
+pub mod Examples

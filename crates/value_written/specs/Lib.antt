@@ -1,0 +1,2 @@
+-- A value's text.
+pub mod Text
