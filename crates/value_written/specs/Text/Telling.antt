@@ -1,14 +1,16 @@
 -- How a value is written in a reply: a rule for each call and each return. A callee is handed the value as the code keeps it.
 use mathlib.Core.Path.{_≡_}
 use mathlib.Core.List.{List}
-use Prim.Native.Nat.{ℕ, _+_, _≤_}
+use Prim.Native.Nat.{ℕ, _+_, _%_, _≤_}
+use native.Mathlib.Omega.{arith}
 use lib.IntN.{ℤ, natAbs}
-use lib.ListN.{length}
+use lib.ListN.{length, length-append}
 use mir.Syntax.{w64}
 use mir.Val.{SFits}
 use mir.Facts.{toZ-ofZ}
 use Rattle.text.specs.Digits.{digits}
-use Rattle.level.specs.Level.{oneDecimalText}
+use Rattle.level.specs.Level.{levelText, oneDecimalText}
+use Rattle.level.specs.Level.Told.{tenth-long, tenth-short}
 use Rattle.level.specs.Level.Sign.{kept}
 use Rattle.text.specs.Switch.{switchText}
 use Rattle.written.specs.Written.{Wrote}
@@ -16,10 +18,25 @@ use Rattle.row.specs.declared.Kind.{Kind}
 use Rattle.row.specs.declared.Kind.the-variants as kind
 use Rattle.value_written.specs.Text.{replyText}
 
+-- one decimal makes no level's text shorter
+decimal-longer : (v : ℤ) → length (levelText v) ≤ length (oneDecimalText v)
+unfolding levelText oneDecimalText
+decimal-longer v =
+    let s = tenth-short (natAbs v % 10) in
+    let l = tenth-long (natAbs v % 10) in
+    simp length-append (omega arith)
+
 module _ (k : Kind) (v : ℤ) (at : ℕ) (f : SFits w64 v) where
   pub told-level-room : (long : ℕ) → k ≡ kind.Level → at + length (replyText k v) ≤ long → at + length (oneDecimalText (kept v)) ≤ long
   unfolding replyText
   told-level-room long e h = rw (toZ-ofZ f) (rw e at h)
+
+  -- there is room for its shortest text too, so that a reply with it is refused for its bytes
+  pub told-shortest-room : (long : ℕ) → k ≡ kind.Level → at + length (replyText k v) ≤ long → at + length (levelText (kept v)) ≤ long
+  told-shortest-room long e h =
+      let d = decimal-longer (kept v) in
+      let r = told-level-room long e h in
+      omega arith
 
   pub told-switch-room : (size long : ℕ) → k ≡ kind.Switch → size ≡ natAbs (kept v) → at + length (replyText k v) ≤ long → at + length (switchText size) ≤ long
   unfolding replyText
@@ -42,4 +59,4 @@ module _ (k : Kind) (v : ℤ) (at : ℕ) (f : SFits w64 v) where
   unfolding replyText
   told-number size r l m e s w = rw e (rw (s, toZ-ofZ f) at w)
 
-pub ruleset telling = (told-level-room, told-switch-room, told-number-room, told-level, told-switch, told-number)
+pub ruleset telling = (told-level-room, told-shortest-room, told-switch-room, told-number-room, told-level, told-switch, told-number)
