@@ -23,7 +23,8 @@ use Rattle.shape.specs.Shape.{lineLimit, isSet, isGet, opening, firstFrom, clos
 use Rattle.index_part.specs.IndexPart.{oneGroup, twoGroups, groups, readIndices}
 use Rattle.value_text.specs.Value.{ofLevel, ofNumber, ofSwitch, readKind, onlyPermitted, readValue}
 use Rattle.meaning.specs.Meaning.{indexed, inModule, inRoom, putOf, getOf, setOf, ofShape, meaning}
-use Rattle.name.specs.Name.{indexText, name}
+use Rattle.name.specs.Name.{name}
+use Rattle.index_written.specs.IndexText.{indexText}
 use Rattle.reply.specs.Reply.{getReply}
 use Rattle.value_written.specs.Text.{replyText}
 use Rattle.acknowledgement.specs.Acknowledgement.{ack, nak}

@@ -20,7 +20,8 @@ use Rattle.field.specs.Field.{labelByte, labelRight, isZero, fieldSound}
 use Rattle.label.specs.Label.{label, same, bearersIn, exactlyOne, bearer}
 use Rattle.parameter.specs.Parameters.{numbered, parametersOf, parametersIn, parameters}
 use Rattle.values.specs.Values.{eachPermitted, valuesSound, equal}
-use Rattle.name.specs.Name.{indexText, name}
+use Rattle.name.specs.Name.{name}
+use Rattle.index_written.specs.IndexText.{indexText}
 use Rattle.say.specs.Say.{say}
 use Rattle.value_written.specs.Text.{setText}
 use Rattle.answer.specs.Worked as reading

@@ -1,9 +1,8 @@
 // How a line names a parameter: the label between quotes and the indices, each after `>`; its length, and writing it.
-use length::number_length;
-use number_written::put_number;
+use index_written::index_length;
+use index_written::put_indices;
 use parameter::Parameter;
 use room::table::Module;
-use row::Indices;
 use written::put_byte;
 use written::put_bytes;
 ghost use mathlib.Core.Path.{_≡_};
@@ -11,25 +10,8 @@ ghost use Prim.Native.Nat.{_+_, _≤_};
 ghost use lib.ListN.{length};
 ghost use Rattle.written.specs.Written.{Wrote};
 ghost use Rattle.label.specs.Label.{label};
-ghost use Rattle.name.specs.Name.{indexText, name};
-ghost use Rattle.name.specs.Name.Writing.{front, groupText, quotedText};
-
-// How long an index after `>` is.
-fn group_length(n: u64) -> usize
-    ensures { λ r. ⌜ (r ≡ length (groupText n)) × (r ≤ 21) ⌝ }
-{
-    1 + number_length(n)
-}
-
-// How long the indices of a row are.
-fn index_length(indices: Indices) -> usize
-    ensures { λ r. ⌜ (r ≡ length (indexText indices)) × (r ≤ 42) ⌝ }
-{
-    match indices {
-        Indices::OneGroup(a) => group_length(a),
-        Indices::TwoGroups(a, b) => group_length(a) + group_length(b),
-    }
-}
+ghost use Rattle.name.specs.Name.{name};
+ghost use Rattle.name.specs.Name.Writing.{front, quotedText};
 
 // How long the name of a parameter is, whose label is `size` bytes long.
 pub fn name_length(table: &[u8], p: Parameter, size: usize) -> usize
@@ -39,29 +21,6 @@ pub fn name_length(table: &[u8], p: Parameter, size: usize) -> usize
     let row = p.row;
     let indices = row.indices;
     2 + size + index_length(indices)
-}
-
-// One index after `>`.
-fn put_group(buffer: &mut [u8], at: usize, n: u64) -> usize
-    requires { ⌜ at + length (groupText n) ≤ length (now buffer) ⌝ }
-    ensures { λ r. ⌜ Wrote (now (buffer .entry)) at (groupText n) r (now (buffer .exit)) ⌝ }
-{
-    let next = put_byte(buffer, at, b'>');
-    put_number(buffer, next, n)
-}
-
-// The indices of a row.
-fn put_indices(buffer: &mut [u8], at: usize, indices: Indices) -> usize
-    requires { ⌜ at + length (indexText indices) ≤ length (now buffer) ⌝ }
-    ensures { λ r. ⌜ Wrote (now (buffer .entry)) at (indexText indices) r (now (buffer .exit)) ⌝ }
-{
-    match indices {
-        Indices::OneGroup(a) => put_group(buffer, at, a),
-        Indices::TwoGroups(a, b) => {
-            let next = put_group(buffer, at, a);
-            put_group(buffer, next, b)
-        }
-    }
 }
 
 // The label of a module, as it stands in the table, `size` bytes long.

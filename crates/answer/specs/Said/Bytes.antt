@@ -14,7 +14,8 @@ use Rattle.label.specs.Label.{label}
 use Rattle.row.specs.declared.Indices.{Indices}
 use Rattle.row.specs.declared.Indices.the-variants.{OneGroup, TwoGroups}
 use Rattle.parameter.specs.declared.Parameter.{Parameter}
-use Rattle.name.specs.Name.{indexText, name}
+use Rattle.name.specs.Name.{name}
+use Rattle.index_written.specs.IndexText.{indexText}
 use Rattle.say.specs.Say.{say}
 use Rattle.value_written.specs.Text.{setText}
 use Rattle.answer.specs.Said.Texts.{text-bytes}

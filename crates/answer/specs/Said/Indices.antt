@@ -20,7 +20,7 @@ use Rattle.catalogue.specs.Catalogue.Sized.{sizedIndices}
 use Rattle.row.specs.declared.Indices.{Indices}
 use Rattle.row.specs.declared.Indices.the-variants.{OneGroup, TwoGroups}
 use Rattle.index_part.specs.IndexPart.{oneGroup, twoGroups, groups, readIndices}
-use Rattle.name.specs.Name.{indexText}
+use Rattle.index_written.specs.IndexText.{indexText}
 use Rattle.index_part.specs.declared.IndexPart.the-variants.{Right, Wrong}
 
 wrong {ℓ} : {A : Type ℓ} (i : Indices) → Wrong ≡ Right i → A

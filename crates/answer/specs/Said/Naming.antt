@@ -30,9 +30,9 @@ use Rattle.index_part.specs.IndexPart.{readIndices}
 use Rattle.answer.specs.Said.Indices.{indices-back, indices-lack}
 use Rattle.value_text.specs.Value.Laws.{Valued}
 use Rattle.meaning.specs.Meaning.Laws.{Names, Puts}
-use Rattle.name.specs.Name.{indexText}
+use Rattle.index_written.specs.IndexText.{indexText}
 use Rattle.shape.specs.declared.Shape.the-variants as shape
-use Rattle.name.specs.Name.Measuring.{indices-short}
+use Rattle.index_written.specs.IndexText.Length.{indices-short}
 
 -- p is a parameter of the sound table t, and its module alone bears its label
 pub record Reached (t : List ℕ) (p : Parameter) : Type 0 where

@@ -18,7 +18,7 @@ use Rattle.answer.specs.Said.Indices.{indices-shortest}
 use Rattle.answer.specs.Said.Texts.{text-shortest}
 use Rattle.meaning.specs.Meaning.{meaning}
 use Rattle.meaning.specs.Meaning.Laws.{Names, put-told}
-use Rattle.name.specs.Name.{indexText}
+use Rattle.index_written.specs.IndexText.{indexText}
 use Rattle.say.specs.Say.{say}
 use Rattle.value_written.specs.Text.{setText}
 use Rattle.answer.specs.Said.Naming.{naming}

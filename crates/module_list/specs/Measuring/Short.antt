@@ -23,7 +23,7 @@ use Rattle.label.specs.Label.Length.{label-short}
 use Rattle.say.specs.Say.{say}
 use Rattle.value_written.specs.Text.{setText}
 use Rattle.value_written.specs.Text.Length.{level-text-short, number-text-short, switch-text-is}
-use Rattle.name.specs.Name.Measuring.{indices-short}
+use Rattle.index_written.specs.IndexText.Length.{indices-short}
 
 value-short : (k : Kind) (x : ℤ) → SFits w64 x → length (setText k x) ≤ 23
 unfolding setText

@@ -1,8 +1,8 @@
 -- `put_indices`: one group, or one behind the other.
 use borrow.Author.Needs.{needs}
-use Rattle.name.specs.Name.Writing.{index-writing}
-use Rattle.name.proofs.put_indices.Statement.{statement}
-use Rattle.name.proofs.put_indices.Tie as tie
+use Rattle.index_written.specs.IndexText.Writing.{index-writing}
+use Rattle.index_written.proofs.put_indices.Statement.{statement}
+use Rattle.index_written.proofs.put_indices.Tie as tie
 
 pub put-indices-spec : {M : Type 1} → statement M
 put-indices-spec =

@@ -1,8 +1,8 @@
 -- `group_length`: `>`, and at most 20 digits.
 use borrow.Author.Needs.{needs}
-use Rattle.name.specs.Name.Measuring.{group-lengths}
-use Rattle.name.proofs.group_length.Statement.{statement}
-use Rattle.name.proofs.group_length.Tie as tie
+use Rattle.index_written.specs.IndexText.Length.{group-lengths}
+use Rattle.index_written.proofs.group_length.Statement.{statement}
+use Rattle.index_written.proofs.group_length.Tie as tie
 
 pub group-length-spec : {M : Type 1} → statement M
 group-length-spec =

@@ -1,8 +1,8 @@
 -- `index_length`: one group, or two.
 use borrow.Author.Needs.{needs}
-use Rattle.name.specs.Name.Measuring.{index-lengths}
-use Rattle.name.proofs.index_length.Statement.{statement}
-use Rattle.name.proofs.index_length.Tie as tie
+use Rattle.index_written.specs.IndexText.Length.{index-lengths}
+use Rattle.index_written.proofs.index_length.Statement.{statement}
+use Rattle.index_written.proofs.index_length.Tie as tie
 
 pub index-length-spec : {M : Type 1} → statement M
 index-length-spec =

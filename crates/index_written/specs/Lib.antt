@@ -1,0 +1,2 @@
+-- The indices of a row, written.
+pub mod IndexText
