@@ -26,7 +26,7 @@ use Rattle.meaning.specs.Meaning.{indexed, inModule, inRoom, putOf, getOf, setO
 use Rattle.name.specs.Name.{name}
 use Rattle.index_written.specs.IndexText.{indexText}
 use Rattle.reply.specs.Reply.{getReply}
-use Rattle.value_written.specs.Text.{replyText}
+use Rattle.value_written.specs.Text.{textOf}
 use Rattle.acknowledgement.specs.Acknowledgement.{ack, nak}
 use Rattle.answer.specs.Answer.{Answer, act, answer}
 use Rattle.values.specs.Values.{equal}
@@ -100,5 +100,5 @@ unfolding answered cases bytes puts told refused tableA oneByteRecord zeros same
     label same bearersIn exactlyOne bearer numbered parametersOf place sameIndices withIndices named
     lineLimit isSet isGet opening firstFrom closing equals getShape setShape quoted shape part
     oneGroup twoGroups groups readIndices ofLevel ofNumber ofSwitch readKind onlyPermitted readValue
-    indexed inModule inRoom putOf getOf setOf ofShape meaning ack nak indexText replyText name getReply act answer
+    indexed inModule inRoom putOf getOf setOf ofShape meaning ack nak indexText textOf name getReply act answer
 worked = refl

@@ -7,6 +7,7 @@ use borrow.Author.Tests.{eq-eqb, ne-eqb}
 use lib.Dec.{eqb}
 use lib.ListN.{length}
 use Rattle.demand.specs.Demand.{Restores, tells}
+use Rattle.demand.specs.Demand.Laws.{told-by}
 use Rattle.listing.specs.Listing.{Told, restore}
 use Rattle.wish.specs.Target.{Wish}
 use Rattle.demand.specs.declared.Restored.{Restored}
@@ -38,6 +39,6 @@ restore-mislent w list told h = rw (ne-eqb (length told) 2 h) refl
 pub restore-told : (w : Wish) (list told : List ℕ) (r : Restored) (list′ told′ : List ℕ) → length told ≡ 2 → Restores w list r list′ → told′ ≡ r .bytes ∷ r .lines ∷ []
     → restoreTells (r .number) told′ list′ ≡ restoreAnswer w list told
 unfolding restoreAnswer counted tells
-restore-told w list told r list′ told′ l h e = rw (eq-eqb (length told) 2 l, e) (ap counted (h .told))
+restore-told w list told r list′ told′ l h e = rw (eq-eqb (length told) 2 l, e) (ap counted (told-by h))
 
 pub ruleset restoring = (restore-mislent, restore-told)

@@ -56,6 +56,5 @@ unfoldable pub tells : Restored → (buffer : List ℕ) → Told
 tells r buffer = record { number = r .number; bytes = r .bytes; lines = r .lines; buffer = buffer }
 
 -- the promise of the restore call: what it tells and writes, and demand 3
-pub record Restores (w : Wish) (buffer : List ℕ) (r : Restored) (buffer′ : List ℕ) : Type 0 where
-  pub told : tells r buffer′ ≡ restore w buffer
-  pub demand : DemandThree w (length buffer) (tells r buffer′)
+pub data Restores (w : Wish) (buffer : List ℕ) (r : Restored) (buffer′ : List ℕ) : Type 0 where
+  restores : (told : tells r buffer′ ≡ restore w buffer) → (demand : DemandThree w (length buffer) (tells r buffer′)) → Restores w buffer r buffer′

@@ -23,7 +23,7 @@ use Rattle.values.specs.Values.{eachPermitted, valuesSound, equal}
 use Rattle.name.specs.Name.{name}
 use Rattle.index_written.specs.IndexText.{indexText}
 use Rattle.say.specs.Say.{say}
-use Rattle.value_written.specs.Text.{setText}
+use Rattle.value_written.specs.Text.{textOf}
 use Rattle.answer.specs.Worked as reading
 use Rattle.answer.specs.Worked.{oneByteRecord, tableA, zeros, bytes}
 use Rattle.wish.specs.Target.{atMostOne, selectionRight, chosen, chosenPermitted, wantedRight, targetOf, target}
@@ -88,7 +88,7 @@ unfolding shown agrees called lists four wishes ended bytes tableA oneByteRecord
     minus level switch number catalogue known rowsIn rowsOf permitted
     labelByte labelRight isZero fieldSound bodyLength bodySound recordsSound recordLimit sound modulesFrom modules
     label same bearersIn exactlyOne bearer numbered parametersOf parametersIn parameters eachPermitted valuesSound
-    indexText name setText say atMostOne selectionRight chosen chosenPermitted wantedRight targetOf target equal
+    indexText name textOf say atMostOne selectionRight chosen chosenPermitted wantedRight targetOf target equal
     changesOf changes lineOf listing borneOnce reachable allReachable wishNumber testNumber listNumber firstOf restoreNumber tell restore
 lists-shown = refl
 

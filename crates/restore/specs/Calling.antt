@@ -20,12 +20,7 @@ use Rattle.module_list.specs.Measuring.Walk.{wishOf}
 use Rattle.module_list.specs.declared.measuring.Measured.{Measured}
 use Rattle.module_list.specs.declared.measuring.Measured.the-variants.{Within, Beyond}
 use Rattle.demand.specs.declared.Restored.{Restored}
-use Rattle.wish.specs.Target.{Wish}
 use Rattle.written.specs.Written.Laws.{bytes-by}
-
--- what listing the changes of an admitted wish leaves: all that the call promises
-pub data Lists (w : Wish) (buffer : List ℕ) (r : Restored) (after : List ℕ) : Type 0 where
-  lists : Restores w buffer r after → Lists w buffer r after
 
 module _ (t : List ℕ) (vs : List ℤ) (selection : List ℕ) (ws : List ℤ) (buffer : List ℕ) where
   refuses : (r : Restored) (n : ℕ) → r ≡ record { bytes = 0; lines = 0; number = n } → restoreNumber (wishOf t vs selection ws) (length buffer) ≡ n → (n ≡ 0 → ⊥)
@@ -40,27 +35,26 @@ module _ (t : List ℕ) (vs : List ℤ) (selection : List ℕ) (ws : List ℤ) (
         number-list (wishOf t vs selection ws) (length buffer) a
         ∙ number-told t (changes (wishOf t vs selection ws)) (length buffer) ∙ ap (λ m. measuredNumber m (length buffer)) (sym g)
 
-    pub refuses-reach : (r : Restored) → f ≡ Beyond → r ≡ record { bytes = 0; lines = 0; number = 7 } → Lists (wishOf t vs selection ws) buffer r buffer
+    pub refuses-reach : (r : Restored) → f ≡ Beyond → r ≡ record { bytes = 0; lines = 0; number = 7 } → Restores (wishOf t vs selection ws) buffer r buffer
     unfolding measuredNumber
-    refuses-reach r e k = lists (refuses r 7 k (listed ∙ rw e refl) (λ z. omega arith))
+    refuses-reach r e k = refuses r 7 k (listed ∙ rw e refl) (λ z. omega arith)
 
     module _ (bytes lines : ℕ) (e : f ≡ Within bytes lines) where
       told : (allReachable t (changes (wishOf t vs selection ws)) ≡ true) × (bytes ≡ length (listing t (changes (wishOf t vs selection ws)))) × (lines ≡ length (changes (wishOf t vs selection ws)))
       told = within-told t (changes (wishOf t vs selection ws)) bytes lines (sym e ∙ g)
 
-      pub refuses-room : (r : Restored) → length buffer < bytes → r ≡ record { bytes = 0; lines = 0; number = 8 } → Lists (wishOf t vs selection ws) buffer r buffer
+      pub refuses-room : (r : Restored) → length buffer < bytes → r ≡ record { bytes = 0; lines = 0; number = 8 } → Restores (wishOf t vs selection ws) buffer r buffer
       unfolding measuredNumber
-      refuses-room r h k = lists (refuses r 8 k (listed ∙ rw (e, lt-leb bytes (length buffer) h) refl) (λ z. omega arith))
+      refuses-room r h k = refuses r 8 k (listed ∙ rw (e, lt-leb bytes (length buffer) h) refl) (λ z. omega arith)
 
       pub list-room : bytes ≤ length buffer → length (listing t (changes (wishOf t vs selection ws))) ≤ length buffer
       list-room h = omega (arith, told .1)
 
       pub returns-list : (n : ℕ) (after : List ℕ) → bytes ≤ length buffer → Wrote buffer 0 (listing t (changes (wishOf t vs selection ws))) n after
-          → Lists (wishOf t vs selection ws) buffer (record { bytes = bytes; lines = lines; number = 0 }) after
+          → Restores (wishOf t vs selection ws) buffer (record { bytes = bytes; lines = lines; number = 0 }) after
       unfolding measuredNumber
       returns-list n after h w =
-          lists
-          (returns-listed (wishOf t vs selection ws) buffer bytes lines after (listed ∙ rw (e, le-leb bytes (length buffer) h) refl) (told .1) (told .2) (bytes-by w))
+          returns-listed (wishOf t vs selection ws) buffer bytes lines after (listed ∙ rw (e, le-leb bytes (length buffer) h) refl) (told .1) (told .2) (bytes-by w)
 
   -- ---- a wish that it does not admit
 
@@ -75,8 +69,4 @@ admits t vs selection ws n e h = test-admits (wishOf t vs selection ws) (sym e �
 
 pub ruleset listing-call = (refuses-reach, refuses-room, list-room, returns-list)
 
-pub listed-restores : (t : List ℕ) (vs : List ℤ) (selection : List ℕ) (ws : List ℤ) (buffer : List ℕ) (r : Restored) (after : List ℕ)
-    → Lists (wishOf t vs selection ws) buffer r after → Restores (wishOf t vs selection ws) buffer r after
-listed-restores t vs selection ws buffer r after (lists h) = h
-
-pub ruleset testing-call = (refuses-test, admits, listed-restores)
+pub ruleset testing-call = (refuses-test, admits)

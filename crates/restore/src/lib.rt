@@ -13,7 +13,6 @@ ghost use mathlib.Core.Bool.{true};
 ghost use mathlib.Core.Path.{_≡_};
 ghost use Rattle.room.specs.Table.{sound};
 ghost use Rattle.demand.specs.Demand.{Restores};
-ghost use Rattle.restore.specs.Calling.{Lists};
 ghost use Rattle.listing.specs.Listing.{Admitted, testNumber, wishNumber};
 
 // What a refused call answers.
@@ -37,7 +36,7 @@ fn list_changes(
     list: &mut [u8],
 ) -> Restored
     requires { ⌜ (now rows ≡ numbers) × Admitted (record { table = now table; present = now present; selection = now selection; wanted = now wanted }) ⌝ }
-    ensures { λ r. ⌜ Lists (record { table = now (table .entry); present = now (present .entry); selection = now (selection .entry); wanted = now (wanted .entry) }) (now (list .entry)) r (now (list .exit)) ⌝ }
+    ensures { λ r. ⌜ Restores (record { table = now (table .entry); present = now (present .entry); selection = now (selection .entry); wanted = now (wanted .entry) }) (now (list .entry)) r (now (list .exit)) ⌝ }
 {
     match measure(table, rows, present, selection, wanted) {
         Measured::Beyond => refused(7),

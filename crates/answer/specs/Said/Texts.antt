@@ -27,7 +27,7 @@ use Rattle.catalogue.specs.Catalogue.Sized.{Sized}
 use Rattle.catalogue.specs.Catalogue.Sized as row
 use Rattle.row.specs.declared.Kind.{Kind}
 use Rattle.row.specs.declared.Kind.the-variants as kind
-use Rattle.value_written.specs.Text.{replyText, setText}
+use Rattle.value_written.specs.Text.{replyText, setText, textOf}
 use Rattle.value_text.specs.Value.{ofLevel, ofNumber, ofSwitch, readKind}
 use Rattle.value_text.specs.Value.Laws.{wrong-value}
 use Rattle.value_text.specs.declared.ValueText.the-variants.{Value}
@@ -35,14 +35,14 @@ use Rattle.value_text.specs.declared.ValueText.the-variants.{Value}
 -- ---- what is written is read back
 
 pub text-back : (k : Kind) (x present : ℤ) → Sized k x → readKind k present (setText k x) ≡ Value x
-unfolding readKind setText ofLevel ofNumber ofSwitch
+unfolding readKind textOf ofLevel ofNumber ofSwitch
 text-back k x present (row.level v h) = rw (level-back v h)
 text-back k x present row.off = rw off-back
 text-back k x present row.on = rw on-back
 text-back k x present (row.number n h) = rw (number-back 5 n (omega arith) h)
 
 pub reply-back : (k : Kind) (x present : ℤ) → Sized k x → readKind k present (replyText k x) ≡ Value x
-unfolding readKind replyText ofLevel ofNumber ofSwitch
+unfolding readKind textOf ofLevel ofNumber ofSwitch
 reply-back k x present (row.level v h) = rw (decimal-back v h)
 reply-back k x present row.off = rw off-back
 reply-back k x present row.on = rw on-back
@@ -51,14 +51,14 @@ reply-back k x present (row.number n h) = rw (number-back 5 n (omega arith) h)
 -- ---- at most five bytes
 
 pub text-short : (k : Kind) (x : ℤ) → Sized k x → length (setText k x) ≤ 5
-unfolding setText
+unfolding textOf
 text-short k x (row.level v h) = level-at-most-five v h
 text-short k x row.off = omega (arith, switch-length 0)
 text-short k x row.on = omega (arith, switch-length 1)
 text-short k x (row.number n h) = digits-short n 5 (omega arith) h
 
 pub reply-short : (k : Kind) (x : ℤ) → Sized k x → length (replyText k x) ≤ 5
-unfolding replyText
+unfolding textOf
 reply-short k x (row.level v h) = decimal-at-most-five v h
 reply-short k x row.off = omega (arith, switch-length 0)
 reply-short k x row.on = omega (arith, switch-length 1)
@@ -67,7 +67,7 @@ reply-short k x (row.number n h) = digits-short n 5 (omega arith) h
 -- ---- no byte but a value's
 
 pub text-bytes : (k : Kind) (x : ℤ) → every valueByte (setText k x) ≡ true
-unfolding setText
+unfolding textOf
 text-bytes kind.Level x = level-bytes x
 text-bytes kind.Switch x = switch-bytes (natAbs x)
 text-bytes kind.Number x = digits-bytes (natAbs x)
@@ -76,7 +76,7 @@ pub text-lacks : (b : ℕ) (k : Kind) (x : ℤ) → valueByte b ≡ false → in
 text-lacks b k x n = no-other b (setText k x) n (text-bytes k x)
 
 pub reply-lacks : (b : ℕ) (k : Kind) (x : ℤ) → valueByte b ≡ false → indexOf b (replyText k x) ≡ length (replyText k x)
-unfolding replyText
+unfolding textOf
 reply-lacks b kind.Level x n = no-other b (oneDecimalText x) n (decimal-bytes x)
 reply-lacks b kind.Switch x n = no-other b (switchText (natAbs x)) n (switch-bytes (natAbs x))
 reply-lacks b kind.Number x n = no-other b (digits (natAbs x)) n (digits-bytes (natAbs x))
@@ -101,7 +101,7 @@ switch-says present x switch.Turn h e = let z : _≡_ {A = ℕ} 0 1 = cc in omeg
 switch-says present x switch.Wrong h e = wrong-value x h
 
 pub text-shortest : (k : Kind) (present x : ℤ) (s : List ℕ) → readKind k present s ≡ Value x → length (setText k x) ≤ length s
-unfolding readKind setText
+unfolding readKind textOf
 text-shortest kind.Level present x s h = level-least s x (readLevel s) refl h
 text-shortest kind.Switch present x s h = omega (arith, switch-length (natAbs x), switch-one s (switch-says present x (readSwitch s) h))
 text-shortest kind.Number present x s h = number-least s x (readNumber 5 s) refl h

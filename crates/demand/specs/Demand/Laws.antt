@@ -29,7 +29,7 @@ use Rattle.listing.specs.Listing.Beyond.{beyond}
 use Rattle.listing.specs.Listing.Numbers.{number-list}
 use Rattle.listing.specs.Listing.Counted.{lines-differing}
 use Rattle.demand.specs.Demand.Played.{AllSayable, all-sayable, from-start, done, listing-bytes, play-listing}
-use Rattle.demand.specs.Demand.{Fulfils, Shortest, Listed, Demanded, accepted, unreachable, no-room, DemandThree, tells, Restores}
+use Rattle.demand.specs.Demand.{Fulfils, Shortest, Listed, Demanded, accepted, unreachable, no-room, DemandThree, tells, Restores, restores}
 use Rattle.demand.specs.declared.Restored.{Restored}
 use Rattle.values.specs.Values.Laws.{values-many, values-each}
 
@@ -130,5 +130,14 @@ pub demand-three : (w : Wish) (buffer : List ℕ) → DemandThree w (length buff
 demand-three w buffer admitted replyRooms enough = demanded w (promise (w .table) (admitted .table)) admitted replyRooms enough buffer
 
 -- so the restore call's promise is kept once it tells and writes what it should
-pub restores : (w : Wish) (buffer : List ℕ) (r : Restored) (buffer′ : List ℕ) → tells r buffer′ ≡ restore w buffer → Restores w buffer r buffer′
-restores w buffer r buffer′ e = record { told = e; demand = rw e (demand-three w buffer) }
+pub told-restores : (w : Wish) (buffer : List ℕ) (r : Restored) (buffer′ : List ℕ) → tells r buffer′ ≡ restore w buffer → Restores w buffer r buffer′
+told-restores w buffer r buffer′ e = restores e (rw e (demand-three w buffer))
+
+-- ---- the two parts of the promise
+
+module _ {w : Wish} {buffer : List ℕ} {r : Restored} {buffer′ : List ℕ} where
+  pub told-by : Restores w buffer r buffer′ → tells r buffer′ ≡ restore w buffer
+  told-by (restores told demand) = told
+
+  pub demand-by : Restores w buffer r buffer′ → DemandThree w (length buffer) (tells r buffer′)
+  demand-by (restores told demand) = demand

@@ -7,11 +7,11 @@ use lib.Seq.{sets}
 use Rattle.wish.specs.Target.{Wish}
 use Rattle.listing.specs.Listing.{changes, listing, restoreNumber, tell, restore}
 use Rattle.demand.specs.Demand.{tells, Restores}
-use Rattle.demand.specs.Demand.Laws.{restores}
+use Rattle.demand.specs.Demand.Laws.{told-restores}
 
 module _ (w : Wish) (buffer : List ℕ) where
   pub returns-refused : (n : ℕ) → restoreNumber w (length buffer) ≡ n → (n ≡ 0 → ⊥) → Restores w buffer (record { bytes = 0; lines = 0; number = n }) buffer
-  returns-refused n e h = restores w buffer (record { bytes = 0; lines = 0; number = n }) buffer (go n e h)
+  returns-refused n e h = told-restores w buffer (record { bytes = 0; lines = 0; number = n }) buffer (go n e h)
     where
       go : (n : ℕ) → restoreNumber w (length buffer) ≡ n → (n ≡ 0 → ⊥) → tells (record { bytes = 0; lines = 0; number = n }) buffer ≡ restore w buffer
       go zero e h = absurd (h refl)
@@ -21,5 +21,5 @@ module _ (w : Wish) (buffer : List ℕ) where
       → lines ≡ length (changes w) → buffer′ ≡ sets buffer 0 (listing (w .table) (changes w))
       → Restores w buffer (record { bytes = bytes; lines = lines; number = 0 }) buffer′
   returns-listed bytes lines buffer′ e b l w′ =
-      restores w buffer (record { bytes = bytes; lines = lines; number = 0 }) buffer′
+      told-restores w buffer (record { bytes = bytes; lines = lines; number = 0 }) buffer′
       (unfold tells restore tell in rw (e, b, l, w′) refl)

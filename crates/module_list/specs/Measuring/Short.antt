@@ -21,12 +21,12 @@ use Rattle.room.specs.declared.table.Module.{Module}
 use Rattle.name.specs.Name.{name}
 use Rattle.label.specs.Label.Length.{label-short}
 use Rattle.say.specs.Say.{say}
-use Rattle.value_written.specs.Text.{setText}
+use Rattle.value_written.specs.Text.{setText, textOf}
 use Rattle.value_written.specs.Text.Length.{level-text-short, number-text-short, switch-text-is}
 use Rattle.index_written.specs.IndexText.Length.{indices-short}
 
 value-short : (k : Kind) (x : ℤ) → SFits w64 x → length (setText k x) ≤ 23
-unfolding setText
+unfolding textOf
 value-short kind.Level x f = level-text-short kind.Level x _ f (rw (toZ-ofZ f) refl)
 value-short kind.Switch x f = omega (arith, switch-text-is kind.Switch x refl)
 value-short kind.Number x f = number-text-short kind.Number x _ f _ (rw (toZ-ofZ f) refl) refl

@@ -16,7 +16,7 @@ use Rattle.level.specs.Level.Sign.{kept, kept-size-fits}
 use Rattle.text.specs.Switch.{switchText}
 use Rattle.row.specs.declared.Kind.{Kind}
 use Rattle.row.specs.declared.Kind.the-variants as kind
-use Rattle.value_written.specs.Text.{setText}
+use Rattle.value_written.specs.Text.{setText, textOf}
 
 level-short : (v : ℤ) → natAbs v < 2 ^ 64 → length (levelText v) ≤ 23
 unfolding levelText wholeText
@@ -28,14 +28,14 @@ level-short v l =
 
 module _ (k : Kind) (v : ℤ) (r : ℕ) (f : SFits w64 v) where
   pub level-text-is : k ≡ kind.Level → r ≡ length (levelText (kept v)) → r ≡ length (setText k v)
-  unfolding setText
+  unfolding textOf
   level-text-is e h = rw e (rw (toZ-ofZ f) at h)
 
   pub level-text-short : r ≡ length (levelText (kept v)) → r ≤ 23
   level-text-short h = let s = level-short (kept v) (kept-size-fits v f .fits) in omega arith
 
   pub number-text-is : (n : ℕ) → k ≡ kind.Number → n ≡ natAbs (kept v) → r ≡ length (digits n) → r ≡ length (setText k v)
-  unfolding setText
+  unfolding textOf
   number-text-is n e s h = rw e (rw (s, toZ-ofZ f) at h)
 
   pub number-text-short : (n : ℕ) → n ≡ natAbs (kept v) → r ≡ length (digits n) → r ≤ 23
@@ -45,7 +45,7 @@ module _ (k : Kind) (v : ℤ) (r : ℕ) (f : SFits w64 v) where
       omega arith
 
 pub switch-text-is : (k : Kind) (v : ℤ) → k ≡ kind.Switch → 1 ≡ length (setText k v)
-unfolding setText switchText
+unfolding textOf switchText
 switch-text-is k v e = rw e refl
 
 pub ruleset text-lengths = (level-text-is, level-text-short, number-text-is, number-text-short, switch-text-is)

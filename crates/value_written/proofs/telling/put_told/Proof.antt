@@ -1,6 +1,6 @@
 -- `put_told`: a text for each kind.
 use borrow.Author.Needs.{needs}
-use Rattle.value_written.specs.Text.Telling.{telling}
+use Rattle.value_written.specs.Text.Writing.{text-writing}
 use Rattle.value_written.proofs.telling.put_told.Statement.{statement}
 use Rattle.value_written.proofs.telling.put_told.Tie as tie
 
@@ -8,17 +8,17 @@ pub put-told-spec : {M : Type 1} → statement M
 put-told-spec =
     tie.close
     (tie.spec
-    (λ c. search (telling, needs))
-    (λ c κs. search (telling, needs))
-    (λ c. search (telling, needs))
-    (λ c κs. search (telling, needs))
-    (λ c κs. search (telling, needs))
-    (λ c. search (telling, needs))
-    (λ c κs. search (telling, needs))
-    (λ c κs. search (telling, needs))
-    (λ c. search (telling, needs))
-    (λ c. search (telling, needs))
-    (λ c. search (telling, needs))
-    (λ c. search (telling, needs))
-    (λ c. search (telling, needs))
-    (λ c. search (telling, needs)))
+    (λ c. search (text-writing, needs))
+    (λ c κs. search (text-writing, needs))
+    (λ c. search (text-writing, needs))
+    (λ c κs. search (text-writing, needs))
+    (λ c κs. search (text-writing, needs))
+    (λ c. search (text-writing, needs))
+    (λ c κs. search (text-writing, needs))
+    (λ c κs. search (text-writing, needs))
+    (λ c. search (text-writing, needs))
+    (λ c. search (text-writing, needs))
+    (λ c. search (text-writing, needs))
+    (λ c. search (text-writing, needs))
+    (λ c. search (text-writing, needs))
+    (λ c. search (text-writing, needs)))
