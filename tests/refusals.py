@@ -36,7 +36,7 @@ def fault(edit, wrong):
         return "the proof file does not fit the code"
     if "file: specs/" in edit.read_text():
         laws = [law for place, law, words in errors if "/specs/" in place and "was not admitted" not in words]
-        return None if not refused and set(wrong) <= set(laws) else f"refused at {', '.join(laws + refused) or 'nothing'}"
+        return None if set(wrong) <= set(laws) else f"refused at {', '.join(laws + refused) or 'nothing'}"
     return None if sorted(refused) == sorted(wrong) else f"refused for {', '.join(refused) or 'no function'}"
 
 

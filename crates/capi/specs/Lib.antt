@@ -1,3 +1,5 @@
--- What the calls for C tell.
+-- The definitions of capi.
 pub mod Log
+pub mod Port
 pub mod Restore
+pub mod Told

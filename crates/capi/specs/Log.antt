@@ -6,11 +6,11 @@ use Prim.Native.Nat.{ℕ, _-_}
 use borrow.Author.Tests.{eq-eqb, ne-eqb}
 use lib.Dec.{eqb}
 use lib.ListN.{length}
-use Rattle.log_part.specs.LogPart.{logPart}
+use Rattle.log.specs.LogPart.{logPart}
 use Rattle.log.specs.Log.Lending.{table-order, line-order}
-use Rattle.log_part.specs.declared.LogPart.{LogPart}
-use Rattle.log_part.specs.declared.LogPart.the-variants.{Table, Line, Nothing}
-use Rattle.told.specs.Told.{misLent}
+use Rattle.log.specs.declared.part.LogPart.{LogPart}
+use Rattle.log.specs.declared.part.LogPart.the-variants.{Table, Line, Nothing}
+use Rattle.capi.specs.Told.{misLent}
 
 -- 1 for the table or 0 for the line, the start of the part, and its length
 unfoldable pub partTold : LogPart → List ℕ

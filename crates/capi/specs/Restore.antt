@@ -6,12 +6,12 @@ use Prim.Native.Nat.{ℕ}
 use borrow.Author.Tests.{eq-eqb, ne-eqb}
 use lib.Dec.{eqb}
 use lib.ListN.{length}
-use Rattle.demand.specs.Demand.{Restores, tells}
-use Rattle.demand.specs.Demand.Laws.{told-by}
-use Rattle.listing.specs.Listing.{Told, restore}
+use Rattle.restore.specs.Demand.{Restores, tells}
+use Rattle.restore.specs.Demand.Laws.{told-by}
+use Rattle.wish.specs.Listing.{Told, restore}
 use Rattle.wish.specs.Target.{Wish}
-use Rattle.demand.specs.declared.Restored.{Restored}
-use Rattle.told.specs.Told.{misLent}
+use Rattle.restore.specs.declared.demand.Restored.{Restored}
+use Rattle.capi.specs.Told.{misLent}
 
 -- the number, and what the call leaves in the counts and in the list buffer
 pub record RestoreAnswer : Type 0 where

@@ -1,16 +1,20 @@
 // The library's calls for C: each is thin over the proved library, and none asks anything of its caller.
-use lent::port_lent;
-use log_part::LogPart;
-use log_part::log_part;
-use port_call::call_port;
+pub mod lent;
+pub mod port_call;
+pub mod told;
+
+use crate::lent::port_lent;
+use crate::port_call::call_port;
+use crate::told::tell_three;
+use crate::told::tell_two;
+use log::part::LogPart;
+use log::part::log_part;
 use restore::restore;
 use room::table::check;
-use told::tell_three;
-use told::tell_two;
 ghost use mathlib.Core.Path.{_≡_};
 ghost use Rattle.room.specs.Table.{tableNumber};
 ghost use Rattle.capi.specs.Log.{logAnswer, logTells};
-ghost use Rattle.lent.specs.Port.{PortCalled};
+ghost use Rattle.capi.specs.Port.{PortCalled};
 ghost use Rattle.capi.specs.Restore.{restoreAnswer, restoreTells};
 
 // Whether a table is sound: 0, or the refusal's number, 1.

@@ -10,11 +10,11 @@ use mathlib.Core.List.{List, [], _∷_, map}
 use Prim.Native.Nat.{ℕ, suc}
 use lib.Dec.{eqb, leb, ltb}
 use lib.IntN.{ℤ, pos, negsuc, negℤ}
-use Rattle.row.specs.declared.Indices.{Indices}
-use Rattle.row.specs.declared.Indices.the-variants.{OneGroup, TwoGroups}
-use Rattle.row.specs.declared.Kind.{Kind}
-use Rattle.row.specs.declared.Kind.the-variants.{Level, Switch, Number}
-use Rattle.row.specs.declared.Row.{Row}
+use Rattle.catalogue.specs.declared.row.Indices.{Indices}
+use Rattle.catalogue.specs.declared.row.Indices.the-variants.{OneGroup, TwoGroups}
+use Rattle.catalogue.specs.declared.row.Kind.{Kind}
+use Rattle.catalogue.specs.declared.row.Kind.the-variants.{Level, Switch, Number}
+use Rattle.catalogue.specs.declared.row.Row.{Row}
 
 -- a row, and the module type that has it
 pub record Entry : Type 0 where

@@ -1,2 +1,4 @@
--- The catalogue: fifty rows, and the rules that hold of each.
+-- The catalogue: the rows of the module types, which values each permits, and the one constant table.
 pub mod Catalogue
+pub mod Numbers
+pub mod Row

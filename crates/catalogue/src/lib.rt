@@ -1,4 +1,10 @@
-// The catalogue: how many rows a module type has, and where they begin.
+// The catalogue: the rows of the module types, which values each permits, and the one constant table.
+pub mod compare;
+pub mod lent_row;
+pub mod permit;
+pub mod row;
+pub mod table;
+
 ghost use mathlib.Core.Bool.{true};
 ghost use mathlib.Core.Path.{_≡_};
 ghost use lib.ListN.{length};

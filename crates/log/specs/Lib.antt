@@ -1,2 +1,3 @@
--- The part of a line or of the table that the log shows.
+-- The label that the log shows of a line.
 pub mod Log
+pub mod LogPart

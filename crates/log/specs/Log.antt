@@ -4,10 +4,10 @@ pub mod Lending
 use mathlib.Core.List.{List}
 use Prim.Native.Nat.{ℕ, _+_}
 use denote.Ref.{RefT, ptr, now}
-use Rattle.shape.specs.Shape.{part}
-use Rattle.log_part.specs.declared.LogPart.{LogPart}
-use Rattle.log_part.specs.declared.LogPart.the-variants.{Table, Line, Nothing}
-use Rattle.log_part.specs.LogPart.{logPart}
+use Rattle.syntax.specs.Shape.{part}
+use Rattle.log.specs.declared.part.LogPart.{LogPart}
+use Rattle.log.specs.declared.part.LogPart.the-variants.{Table, Line, Nothing}
+use Rattle.log.specs.LogPart.{logPart}
 
 -- a part of lent bytes: the block that it lies in, its place there, and its bytes
 pub record Part : Type 0 where

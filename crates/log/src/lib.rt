@@ -1,6 +1,8 @@
-// The label for the log.
-use log_part::LogPart;
-use log_part::log_part;
+// The label that the log shows of a line.
+pub mod part;
+
+use crate::part::LogPart;
+use crate::part::log_part;
 ghost use mathlib.Core.Path.{_≡_};
 ghost use Rattle.log.specs.Log.{logLabel, placed};
 

@@ -1,3 +1,4 @@
--- What holds while the program reads its table and starts.
+-- The definitions of port.
+pub mod Input
 pub mod Reading
 pub mod Start

@@ -9,8 +9,8 @@ use lib.ListN.{length, take, drop, length-append}
 use lib.Seq.{take-at}
 use Rattle.room.specs.Table.{sound}
 use Rattle.values.specs.Values.{valuesSound}
-use Rattle.starts.specs.Starts.{Started, starts}
-use Rattle.starts.specs.Starts.Right.{starts-few, starts-right}
+use Rattle.values.specs.Starts.{Started, starts}
+use Rattle.values.specs.Starts.Right.{starts-few, starts-right}
 use Rattle.text.specs.Part.{part-counts}
 use Rattle.text.specs.Every.{test-held}
 

@@ -1,8 +1,8 @@
 // Serving standard input from the start values on.
-use catalogue_table::all_rows;
+use crate::standard_input::answer_read;
+use catalogue::table::all_rows;
 use serial_port::port::Port;
-use standard_input::answer_read;
-use starts::fill_starts;
+use values::starts::fill_starts;
 ghost use mathlib.Core.Bool.{true};
 ghost use mathlib.Core.Path.{_≡_};
 ghost use Prim.Native.Nat.{_≤_};

@@ -1,12 +1,13 @@
 // Serves the lines of standard input over the module table in the file `table`, and writes the replies alone.
 mod input;
+mod standard_input;
 mod table;
 
-use input::serve_input;
+use crate::input::serve_input;
+use crate::table::read_file;
+use crate::table::table_buffer;
 use libc::STDOUT_FILENO;
 use room::table::is_sound;
-use table::read_file;
-use table::table_buffer;
 
 // How many bytes a table may have.
 const TABLE: usize = 2112;

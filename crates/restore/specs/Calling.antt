@@ -7,20 +7,20 @@ use native.Mathlib.Omega.{arith}
 use borrow.Author.Tests.{le-leb, lt-leb}
 use lib.IntN.{ℤ}
 use lib.ListN.{length}
-use Rattle.written.specs.Written.{Wrote}
-use Rattle.listing.specs.Listing.{Admitted, allReachable, changes, listing, restoreNumber, testNumber}
-use Rattle.listing.specs.Listing.Numbers.{number-list}
-use Rattle.demand.specs.Demand.{Restores}
-use Rattle.listing.specs.Listing.Numbers.{test-admits}
+use Rattle.text.specs.Written.{Wrote}
+use Rattle.wish.specs.Listing.{Admitted, allReachable, changes, listing, restoreNumber, testNumber}
+use Rattle.wish.specs.Listing.Numbers.{number-list}
+use Rattle.restore.specs.Demand.{Restores}
+use Rattle.wish.specs.Listing.Numbers.{test-admits}
 use Rattle.restore.specs.Testing.{test-refuses}
-use Rattle.demand.specs.Demand.Rules.{returns-listed, returns-refused}
-use Rattle.module_list.specs.Measuring.{measured, measuredNumber}
-use Rattle.module_list.specs.Measuring.Told.{number-told, within-told}
-use Rattle.module_list.specs.Measuring.Walk.{wishOf}
-use Rattle.module_list.specs.declared.measuring.Measured.{Measured}
-use Rattle.module_list.specs.declared.measuring.Measured.the-variants.{Within, Beyond}
-use Rattle.demand.specs.declared.Restored.{Restored}
-use Rattle.written.specs.Written.Laws.{bytes-by}
+use Rattle.restore.specs.Demand.Rules.{returns-listed, returns-refused}
+use Rattle.restore_list.specs.Measuring.{measured, measuredNumber}
+use Rattle.restore_list.specs.Measuring.Told.{number-told, within-told}
+use Rattle.restore_list.specs.Measuring.Walk.{wishOf}
+use Rattle.restore_list.specs.declared.module_measuring.Measured.{Measured}
+use Rattle.restore_list.specs.declared.module_measuring.Measured.the-variants.{Within, Beyond}
+use Rattle.restore.specs.declared.demand.Restored.{Restored}
+use Rattle.text.specs.Written.Laws.{bytes-by}
 
 module _ (t : List ℕ) (vs : List ℤ) (selection : List ℕ) (ws : List ℤ) (buffer : List ℕ) where
   refuses : (r : Restored) (n : ℕ) → r ≡ record { bytes = 0; lines = 0; number = n } → restoreNumber (wishOf t vs selection ws) (length buffer) ≡ n → (n ≡ 0 → ⊥)

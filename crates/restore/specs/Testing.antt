@@ -9,8 +9,8 @@ use Rattle.text.specs.Every.{test-held}
 use Rattle.room.specs.Table.{sound}
 use Rattle.values.specs.Values.{valuesSound}
 use Rattle.wish.specs.Target.{Wish, selectionRight, wantedRight}
-use Rattle.listing.specs.Listing.{changes, firstOf, listNumber, restoreNumber, testNumber, wishNumber}
-use Rattle.module_list.specs.Measuring.Walk.{wishOf}
+use Rattle.wish.specs.Listing.{changes, firstOf, listNumber, restoreNumber, testNumber, wishNumber}
+use Rattle.restore_list.specs.Measuring.Walk.{wishOf}
 
 -- a test that fails gives the call its number
 pub test-refuses : (w : Wish) (room : ℕ) → (testNumber w ≡ 0 → ⊥) → restoreNumber w room ≡ testNumber w

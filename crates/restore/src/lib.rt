@@ -1,9 +1,11 @@
-// The restore call.
-use catalogue_table::all_rows;
-use demand::Restored;
-use list::write;
-use measure::measure;
-use module_list::measuring::Measured;
+// The restore call, with demand 3 in its contract.
+pub mod demand;
+
+use crate::demand::Restored;
+use catalogue::table::all_rows;
+use restore_list::list::write;
+use restore_list::measure::measure;
+use restore_list::module_measuring::Measured;
 use room::table::is_sound;
 use values::are_sound;
 use wish::selection_right;
@@ -12,8 +14,8 @@ ghost use Rattle.catalogue.specs.Catalogue.{numbers};
 ghost use mathlib.Core.Bool.{true};
 ghost use mathlib.Core.Path.{_≡_};
 ghost use Rattle.room.specs.Table.{sound};
-ghost use Rattle.demand.specs.Demand.{Restores};
-ghost use Rattle.listing.specs.Listing.{Admitted, testNumber, wishNumber};
+ghost use Rattle.restore.specs.Demand.{Restores};
+ghost use Rattle.wish.specs.Listing.{Admitted, testNumber, wishNumber};
 
 // What a refused call answers.
 fn refused(number: u8) -> Restored

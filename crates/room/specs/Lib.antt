@@ -1,2 +1,3 @@
--- The module table: when it is sound, and its records.
+-- The module table of a room, and the one module that bears a label.
+pub mod Label
 pub mod Table

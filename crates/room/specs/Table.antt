@@ -8,7 +8,7 @@ use mathlib.Core.List.{List, [], _∷_}
 use Prim.Native.Nat.{ℕ, zero, suc, _+_}
 use lib.ListN.{length, take, drop}
 use Rattle.catalogue.specs.Catalogue.{rowsOf}
-use Rattle.body.specs.Body.{bodyLength, bodySound}
+use Rattle.record.specs.Body.{bodyLength, bodySound}
 use Rattle.room.specs.declared.table.Module.{Module}
 use Rattle.room.specs.declared.table.ModuleFound.{ModuleFound}
 use Rattle.room.specs.declared.table.ModuleFound.the-variants.{At, Nothing}

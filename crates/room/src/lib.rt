@@ -1,2 +1,3 @@
-// The module table of a room.
+// The module table of a room, and the one module that bears a label.
+pub mod label;
 pub mod table;

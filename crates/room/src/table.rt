@@ -1,7 +1,7 @@
 // The module table.
-use body::body_length;
-use body::body_sound;
 use catalogue::row_count;
+use record::body::body_length;
+use record::body::body_sound;
 ghost use mathlib.Core.Bool.{true};
 ghost use mathlib.Core.Path.{_≡_};
 ghost use Rattle.room.specs.Table.{moduleAt, modules, sound, tableNumber};

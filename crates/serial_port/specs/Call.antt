@@ -11,10 +11,10 @@ use lib.IntN.{ℤ}
 use lib.ListN.{length}
 use lib.Seq.{sets}
 use Rattle.text.specs.Cut.{has, indexOf, before}
-use Rattle.shape.specs.Shape.{lineLimit}
-use Rattle.acknowledgement.specs.Acknowledgement.{nak}
-use Rattle.answer.specs.Answer.{Answer, answer}
-use Rattle.refusal.specs.Refusal.{callNumber}
+use Rattle.syntax.specs.Shape.{lineLimit}
+use Rattle.spelling.specs.Acknowledgement.{nak}
+use Rattle.line.specs.Answer.{Answer, answer}
+use Rattle.serial_port.specs.Refusal.{callNumber}
 use Rattle.serial_port.specs.Port.{View, held, over, view, fresh, join}
 use Rattle.serial_port.specs.declared.port.Port.{Port}
 use Rattle.serial_port.specs.declared.port.Called.{Called}

@@ -1,4 +1,6 @@
--- The port: bytes collected into lines, the call, and playing a byte sequence.
-pub mod Port
+-- The port: bytes collected into lines, and one reply to each; playing a sequence; serving a stream.
 pub mod Call
 pub mod Play
+pub mod Port
+pub mod Refusal
+pub mod Stream

@@ -10,10 +10,10 @@ use lib.Dec.{eqb}
 use lib.IntN.{ℤ}
 use lib.ListN.{length, drop}
 use Rattle.text.specs.Cut.{has}
-use Rattle.answer.specs.Answer.{answer}
+use Rattle.line.specs.Answer.{answer}
 use Rattle.serial_port.specs.Port.{View, fresh, claim, join}
 use Rattle.serial_port.specs.Call.{Answering, Step, step, finish}
-use Rattle.refusal.specs.Refusal.{callNumber}
+use Rattle.serial_port.specs.Refusal.{callNumber}
 
 -- the replies in order, the values and the port at the end, and whether a call was refused
 pub record Played : Type 0 where

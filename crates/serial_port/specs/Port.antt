@@ -7,7 +7,7 @@ use mathlib.Core.List.{List, [], _++_}
 use Prim.Native.Nat.{ℕ, _≤_}
 use lib.Dec.{leb}
 use lib.ListN.{length, take}
-use Rattle.shape.specs.Shape.{lineLimit}
+use Rattle.syntax.specs.Shape.{lineLimit}
 use Rattle.serial_port.specs.declared.port.Port.{Port}
 
 -- of an overrun port the held bytes do not count, and of no port what is stored past them

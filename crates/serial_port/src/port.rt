@@ -1,10 +1,10 @@
 // The port: it collects bytes into lines, and answers each line once.
-use acknowledgement::put_nak;
-use answer::answer_line;
-use catalogue_table::all_rows;
-use refusal::call_number;
+use crate::refusal::call_number;
+use catalogue::table::all_rows;
+use line::answer::answer_line;
+use spelling::acknowledgement::put_nak;
 use text::cut::find;
-use written::put_bytes;
+use text::written::put_bytes;
 ghost use mathlib.Core.Bool.{true};
 ghost use mathlib.Core.Path.{_≡_};
 ghost use Prim.Native.Nat.{_≤_};
@@ -34,9 +34,9 @@ pub struct Called {
 
 impl Port {
     // How many bytes a port may hold, how many bytes a reply buffer must have, and how many modules a table may have.
-    pub const HELD: usize = refusal::HELD;
+    pub const HELD: usize = crate::refusal::HELD;
 
-    pub const REPLY: usize = refusal::REPLY;
+    pub const REPLY: usize = crate::refusal::REPLY;
 
     pub const MODULES: usize = room::table::MODULES;
 

@@ -1,6 +1,7 @@
 -- Decimal digits of any width: a number's digits, and the number that digits say.
 pub mod Laws
 pub mod Value
+pub mod Writing
 use mathlib.Core.Bool.{Bool, true, false, _&&_}
 use mathlib.Core.List.{List, [], _∷_, _++_}
 use Prim.Native.Nat.{ℕ, zero, suc, _+_, _-_, _*_, _/_, _%_}

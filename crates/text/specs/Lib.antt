@@ -1,8 +1,12 @@
--- What the contracts of `text` say: bytes, cutting at one, parts of lists, decimal digits, and switches as text.
+-- Numbers, levels and switches as text: read, measured, and written into a lent buffer.
 pub mod Byte
 pub mod Cut
 pub mod Digits
 pub mod Every
-pub mod Examples
+pub mod Level
+pub mod Measuring
+pub mod Number
 pub mod Part
 pub mod Switch
+pub mod ValueBytes
+pub mod Written

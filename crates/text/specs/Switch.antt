@@ -1,4 +1,5 @@
 -- Switch texts: `O` on, `F` off, and `T`, which turns the present value over.
+pub mod Examples
 pub mod Laws
 use mathlib.Core.Bool.{cond}
 use mathlib.Core.List.{List, [], _∷_}

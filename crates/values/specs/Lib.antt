@@ -1,2 +1,5 @@
--- The value list: when it is sound.
+-- The value list of a room: which parameter each value is of, and which lists are right.
+pub mod Parameters
+pub mod Permit
+pub mod Starts
 pub mod Values

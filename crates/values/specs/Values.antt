@@ -9,9 +9,9 @@ use Prim.Native.Nat.{ℕ}
 use lib.Dec.{eqb}
 use lib.IntN.{ℤ, pos, negsuc}
 use lib.ListN.{length}
-use Rattle.row.specs.Row.{permitted}
-use Rattle.parameter.specs.Parameters.{parameters}
-use Rattle.parameter.specs.declared.Parameter.{Parameter}
+use Rattle.catalogue.specs.Row.{permitted}
+use Rattle.values.specs.Parameters.{parameters}
+use Rattle.values.specs.declared.parameter.Parameter.{Parameter}
 
 -- each entry is permitted for its row
 unfoldable pub eachPermitted : List Parameter → List ℤ → Bool

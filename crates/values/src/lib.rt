@@ -1,7 +1,11 @@
-// The value list: one value for each parameter.
-use body::body_length;
+// The value list of a room: which parameter each value is of, and which lists are right.
+pub mod module_values;
+pub mod parameter;
+pub mod starts;
+
+use crate::module_values::module_fits;
 use catalogue::row_count;
-use module_values::module_fits;
+use record::body::body_length;
 ghost use mathlib.Core.Bool.{true};
 ghost use mathlib.Core.Path.{_≡_};
 ghost use Rattle.catalogue.specs.Catalogue.{numbers};

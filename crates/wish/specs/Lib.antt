@@ -1,2 +1,3 @@
--- What is wished: the chosen modules, the wanted values, and the target list.
+-- The chosen modules and their wanted values, and the restore list as a definition.
+pub mod Listing
 pub mod Target

@@ -8,11 +8,11 @@ use Prim.Native.Nat.{ℕ, suc}
 use lib.Dec.{eqb, leb}
 use lib.IntN.{ℤ}
 use lib.ListN.{length, getD}
-use Rattle.row.specs.Row.{permitted}
+use Rattle.catalogue.specs.Row.{permitted}
 use Rattle.text.specs.Every.{every}
 use Rattle.room.specs.Table.{modules}
-use Rattle.parameter.specs.Parameters.{parameters}
-use Rattle.parameter.specs.declared.Parameter.{Parameter}
+use Rattle.values.specs.Parameters.{parameters}
+use Rattle.values.specs.declared.parameter.Parameter.{Parameter}
 use Rattle.values.specs.Values.{equal}
 
 -- the table and the present values, the chosen modules and their wanted values

@@ -1,14 +1,15 @@
-// The wish: whether the selection and the wanted values are right for the table.
-use body::body_length;
+// The chosen modules and their wanted values, and the restore list as a definition.
+
 use catalogue::row_count;
-use module_values::module_fits;
+use record::body::body_length;
+use values::module_values::module_fits;
 ghost use mathlib.Core.Bool.{not, true, _||_};
 ghost use mathlib.Core.Path.{_≡_};
 ghost use lib.Dec.{eqb};
 ghost use lib.ListN.{length};
 ghost use Rattle.catalogue.specs.Catalogue.{known, numbers, rowsOf};
 ghost use Rattle.room.specs.Table.{sound};
-ghost use Rattle.module_values.specs.Permit.{rowsPermit};
+ghost use Rattle.values.specs.Permit.{rowsPermit};
 ghost use Rattle.wish.specs.Target.{selectionRight, wantedRight};
 
 // Whether there is one selection byte for each module, and each is 0 or 1.

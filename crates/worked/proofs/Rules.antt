@@ -5,10 +5,10 @@ use Prim.Native.Nat.{ℕ, _≤_}
 use native.Mathlib.Omega.{arith}
 use lib.IntN.{ℤ}
 use lib.ListN.{length}
-use Rattle.parameter.specs.Parameters.{parameters}
+use Rattle.values.specs.Parameters.{parameters}
 use Rattle.text.specs.Every.{test-held}
-use Rattle.starts.specs.Starts.{starts}
-use Rattle.starts.specs.Starts.Filling.{length-starts}
+use Rattle.values.specs.Starts.{starts}
+use Rattle.values.specs.Starts.Filling.{length-starts}
 
 pub starts-room : (t : List ℕ) (vs : List ℤ) (n : ℕ) → n ≡ length (parameters t) → n ≤ length vs → length (starts t) ≤ length vs
 starts-room t vs n e h = omega (arith, length-starts t)

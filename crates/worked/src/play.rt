@@ -1,10 +1,10 @@
 // A script played on a room: lines, each with its 0D and then the reply that it must get.
-use catalogue_table::all_rows;
-use parameter::parameter_count;
+use catalogue::table::all_rows;
 use room::table::is_sound;
 use serial_port::port::Port;
-use starts::fill_starts;
 use text::cut::find;
+use values::parameter::parameter_count;
+use values::starts::fill_starts;
 
 // How many lines were played, and the number of the first wrong answer, from 1, or 0.
 pub struct Tally {

@@ -1,6 +1,6 @@
 -- `egrivundo_port`: 255, or the call.
 use borrow.Author.Needs.{needs}
-use Rattle.lent.specs.Port.Calling.{lending}
+use Rattle.capi.specs.Port.Calling.{lending}
 use Rattle.capi.proofs.egrivundo_port.Statement.{statement}
 use Rattle.capi.proofs.egrivundo_port.Tie as tie
 

@@ -9,8 +9,8 @@ use Rattle.text.specs.Every.{both-left, both-right, every, pairs}
 use Rattle.catalogue.specs.Catalogue.{Entry, catalogue, rowsIn, rowsOf}
 use Rattle.catalogue.specs.Catalogue.Each.{rows-tested}
 use Rattle.catalogue.specs.Catalogue.Rules.{catalogue-distinct, differ}
-use Rattle.row.specs.Row.{sameIndices}
-use Rattle.row.specs.declared.Row.{Row}
+use Rattle.catalogue.specs.Row.{sameIndices}
+use Rattle.catalogue.specs.declared.row.Row.{Row}
 
 -- two rows do not have the same indices
 unfoldable pub rowsDiffer : Row → Row → Bool

@@ -7,7 +7,7 @@ use borrow.Author.Tests.{eqb-true}
 use lib.Dec.{eqb}
 use Rattle.text.specs.Every.{both-left, both-right, every}
 use Rattle.catalogue.specs.Catalogue.{Entry, rowsIn}
-use Rattle.row.specs.declared.Row.{Row}
+use Rattle.catalogue.specs.declared.row.Row.{Row}
 
 -- what holds of every entry of a table holds of the rows of each type
 pub rows-tested : (test : Entry → Bool) (owner : ℕ) (tests : Row → Bool)

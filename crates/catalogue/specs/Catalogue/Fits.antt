@@ -10,8 +10,8 @@ use Rattle.text.specs.Every.{both-left, both-right, every, every-at}
 use Rattle.catalogue.specs.Catalogue.{catalogue, level, minus, number, switch}
 use Rattle.catalogue.specs.Catalogue.Each.{entryTest}
 use Rattle.catalogue.specs.Catalogue.Rules.{entryAt, noEntry}
-use Rattle.row.specs.Row.Laws.{RowFits}
-use Rattle.row.specs.declared.Row.{Row}
+use Rattle.catalogue.specs.Row.Laws.{RowFits}
+use Rattle.catalogue.specs.declared.row.Row.{Row}
 
 unfoldable pub fits : Row → Bool
 fits r = ltb (mag (r .low)) (2 ^ 62) && (ltb (mag (r .high)) (2 ^ 62) && ltb 0 (r .step))

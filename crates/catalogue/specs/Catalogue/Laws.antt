@@ -13,7 +13,7 @@ use mir.Val.{Fits}
 use Rattle.text.specs.Every.{both-left, both-right}
 use Rattle.catalogue.specs.Catalogue.{Entry, catalogue, firstRow, known, level, minus, number, rowsBefore, rowsIn, rowsOf, switch}
 use Rattle.catalogue.specs.Catalogue.Rules.{entryAt, noEntry, noRow, rowOf}
-use Rattle.row.specs.declared.Row.{Row}
+use Rattle.catalogue.specs.declared.row.Row.{Row}
 
 -- the bounds of a module type
 pub record Known (kind : ℕ) : Type 0 where

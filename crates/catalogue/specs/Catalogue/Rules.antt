@@ -10,9 +10,9 @@ use lib.ListN.{getD, length}
 use lib.Signed.{ltZ}
 use Rattle.text.specs.Every.{both-left, both-right, every, every-at, pairs, pairs-at}
 use Rattle.catalogue.specs.Catalogue.{Entry, catalogue, firstNumber, level, minus, number, rowsOf, secondNumber, switch}
-use Rattle.row.specs.Row.{sameIndices}
-use Rattle.row.specs.declared.Indices.the-variants.{OneGroup}
-use Rattle.row.specs.declared.Row.{Row}
+use Rattle.catalogue.specs.Row.{sameIndices}
+use Rattle.catalogue.specs.declared.row.Indices.the-variants.{OneGroup}
+use Rattle.catalogue.specs.declared.row.Row.{Row}
 
 -- no entry: what stands past the catalogue's end
 unfoldable pub noEntry : Entry

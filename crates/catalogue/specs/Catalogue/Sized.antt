@@ -10,12 +10,12 @@ use lib.Signed.{leZ}
 use Rattle.text.specs.Every.{both-left, both-right, every, never}
 use Rattle.catalogue.specs.Catalogue.{catalogue, level as level′, minus, number as number′, rowsOf, switch as switch′}
 use Rattle.catalogue.specs.Catalogue.Each.{entryTest, every-type}
-use Rattle.row.specs.Row.{permitted}
-use Rattle.row.specs.declared.Indices.{Indices}
-use Rattle.row.specs.declared.Indices.the-variants.{OneGroup, TwoGroups}
-use Rattle.row.specs.declared.Kind.{Kind}
-use Rattle.row.specs.declared.Kind.the-variants.{Level, Switch, Number}
-use Rattle.row.specs.declared.Row.{Row}
+use Rattle.catalogue.specs.Row.{permitted}
+use Rattle.catalogue.specs.declared.row.Indices.{Indices}
+use Rattle.catalogue.specs.declared.row.Indices.the-variants.{OneGroup, TwoGroups}
+use Rattle.catalogue.specs.declared.row.Kind.{Kind}
+use Rattle.catalogue.specs.declared.row.Kind.the-variants.{Level, Switch, Number}
+use Rattle.catalogue.specs.declared.row.Row.{Row}
 
 unfoldable pub sizedIndices : Indices → Bool
 sizedIndices (OneGroup a) = ltb a 1000

@@ -4,13 +4,13 @@ use mathlib.Core.Bool.{true}
 use mathlib.Core.List.{List}
 use Prim.Native.Nat.{ℕ, _+_}
 use lib.ListN.{length}
-use Rattle.label.specs.Label.{bearer}
-use Rattle.label.specs.Label.Laws.{bearer-found}
-use Rattle.label.specs.Label.Length.{label-part}
+use Rattle.room.specs.Label.{bearer}
+use Rattle.room.specs.Label.Laws.{bearer-found}
+use Rattle.room.specs.Label.Length.{label-part}
 use Rattle.room.specs.Table.{sound}
-use Rattle.label.specs.declared.Bearer.the-variants.{Only}
+use Rattle.room.specs.declared.label.Bearer.the-variants.{Only}
 use Rattle.room.specs.declared.table.Module.{Module}
-use Rattle.shape.specs.Shape.{part}
+use Rattle.syntax.specs.Shape.{part}
 
 pub shown-text : (t text : List ℕ) (m : Module) → sound t ≡ true → bearer t text ≡ Only m → part t (m .place + 1) (m .place + 1 + length text) ≡ text
 unfolding part

@@ -8,16 +8,16 @@ use borrow.Author.Tests.{ltb-true}
 use denote.Ref.{RefT, ptr, now}
 use lib.Dec.{ltb}
 use lib.ListN.{length, take, drop}
-use Rattle.label.specs.Label.{bearer}
+use Rattle.room.specs.Label.{bearer}
 use Rattle.room.specs.Table.{sound}
-use Rattle.label.specs.declared.Bearer.{Bearer}
-use Rattle.label.specs.declared.Bearer.the-variants.{Only, NotOne}
+use Rattle.room.specs.declared.label.Bearer.{Bearer}
+use Rattle.room.specs.declared.label.Bearer.the-variants.{Only, NotOne}
 use Rattle.log.specs.Log.{partOf, partShown, logLabel}
-use Rattle.log_part.specs.LogPart.{firstQuote, secondQuote, shown, logPart}
-use Rattle.log_part.specs.LogPart.Showing.{label-room}
-use Rattle.shape.specs.Shape.{firstFrom, part}
-use Rattle.log_part.specs.declared.LogPart.{LogPart}
-use Rattle.log_part.specs.declared.LogPart.the-variants.{Table, Line, Nothing}
+use Rattle.log.specs.LogPart.{firstQuote, secondQuote, shown, logPart}
+use Rattle.log.specs.LogPart.Showing.{label-room}
+use Rattle.syntax.specs.Shape.{firstFrom, part}
+use Rattle.log.specs.declared.part.LogPart.{LogPart}
+use Rattle.log.specs.declared.part.LogPart.the-variants.{Table, Line, Nothing}
 
 -- ---- within
 

@@ -11,7 +11,7 @@ use lib.ListN.{length, getD, take, drop, length-take, length-drop, drop-of-lengt
 use lib.Seq.{drop-cons, drop-drop}
 use Rattle.catalogue.specs.Catalogue.{known}
 use Rattle.room.specs.Table.{recordLimit, recordsSound, sound, tableNumber}
-use Rattle.body.specs.Body.{bodyLength, bodySound}
+use Rattle.record.specs.Body.{bodyLength, bodySound}
 
 -- the records before a place are sound, and as many may follow as are left
 pub record Checked (t : List ℕ) (place left : ℕ) : Type 0 where

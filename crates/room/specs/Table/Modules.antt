@@ -10,8 +10,8 @@ use Rattle.text.specs.Cut.{before, indexOf}
 use Rattle.catalogue.specs.Catalogue.{known, rowsOf}
 use Rattle.text.specs.Every.{both-left, both-right, every}
 use Rattle.room.specs.Table.{moduleAt, modules, sound}
-use Rattle.body.specs.Body.{bodyLength, bodySound}
-use Rattle.field.specs.Field.{fieldSound, isZero, labelRight}
+use Rattle.record.specs.Body.{bodyLength, bodySound}
+use Rattle.record.specs.Field.{fieldSound, isZero, labelRight}
 use Rattle.room.specs.Table.Walk.{Walk, modulesAt, modules-end, modules-next, modules-start, walk-body, walk-induction, walk-known, walk-room, walk-start}
 use Rattle.room.specs.declared.table.Module.{Module}
 use Rattle.room.specs.declared.table.ModuleFound.the-variants.{At, Nothing}

@@ -7,7 +7,7 @@ use native.Mathlib.Omega.{arith}
 use lib.ListN.{length, getD}
 use Rattle.catalogue.specs.Catalogue.{rowsOf}
 use Rattle.room.specs.Table.{moduleAt, modules, sound}
-use Rattle.body.specs.Body.{bodyLength}
+use Rattle.record.specs.Body.{bodyLength}
 use Rattle.room.specs.Table.Modules.{at-first, at-none, at-others}
 use Rattle.room.specs.Table.Walk.{Walk, modulesAt, modules-end, modules-next, modules-start, walk-next, walk-start}
 use Rattle.room.specs.declared.table.ModuleFound.the-variants.{At, Nothing}

@@ -15,8 +15,8 @@ use Rattle.catalogue.specs.Catalogue.{known, rowsOf}
 use Rattle.text.specs.Every.{both-left, both-right}
 use Rattle.catalogue.specs.Catalogue.Laws.{rows-few}
 use Rattle.room.specs.Table.{modules, modulesFrom, recordLimit, recordsSound, sound}
-use Rattle.body.specs.Body.{bodyLength, bodySound}
-use Rattle.field.specs.Field.{fieldSound}
+use Rattle.record.specs.Body.{bodyLength, bodySound}
+use Rattle.record.specs.Field.{fieldSound}
 use Rattle.room.specs.declared.table.Module.{Module}
 
 -- the modules from the record at a place on

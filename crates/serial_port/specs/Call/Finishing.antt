@@ -5,14 +5,14 @@ use mathlib.Core.List.{List}
 use Prim.Native.Nat.{ℕ}
 use lib.IntN.{ℤ}
 use lib.ListN.{take}
-use Rattle.written.specs.Written.{Wrote}
-use Rattle.acknowledgement.specs.Acknowledgement.{nak}
-use Rattle.answer.specs.Answer as line
-use Rattle.answer.specs.Answer.{answer}
+use Rattle.text.specs.Written.{Wrote}
+use Rattle.spelling.specs.Acknowledgement.{nak}
+use Rattle.line.specs.Answer as line
+use Rattle.line.specs.Answer.{answer}
 use Rattle.serial_port.specs.Port.{view}
 use Rattle.serial_port.specs.Call.{finish}
 use Rattle.serial_port.specs.declared.port.Port.{Port}
-use Rattle.answer.specs.Answer.Laws.{reply-by, values-by}
+use Rattle.line.specs.Answer.Laws.{reply-by, values-by}
 
 -- what answering the line of the port p leaves: the reply at the start of its buffer, its length, and the values
 pub data Finishes (t : List ℕ) (vs : List ℤ) (p : Port) (buffer : List ℕ) (n : ℕ) (vs′ : List ℤ) (buffer′ : List ℕ) : Type 0 where

@@ -10,15 +10,15 @@ use lib.Seq.{sets, sets-eq, take-at}
 use Rattle.text.specs.Cut.{has, indexOf, before}
 use Rattle.room.specs.Table.{sound}
 use Rattle.values.specs.Values.{valuesSound}
-use Rattle.shape.specs.Shape.{lineLimit}
-use Rattle.acknowledgement.specs.Acknowledgement.{nak}
-use Rattle.answer.specs.Answer.{answer}
-use Rattle.answer.specs.Answer.Replies.{reply-limit}
+use Rattle.syntax.specs.Shape.{lineLimit}
+use Rattle.spelling.specs.Acknowledgement.{nak}
+use Rattle.line.specs.Answer.{answer}
+use Rattle.line.specs.Answer.Replies.{reply-limit}
 use Rattle.serial_port.specs.Port.{View, held, over, view, Same, claim, join}
 use Rattle.serial_port.specs.Port.Laws.{join-nothing, same-seen, seen-same}
 use Rattle.serial_port.specs.Call.{Answering, step, replied, waiting, finish, call, tells, Handed, Answers, answers}
-use Rattle.refusal.specs.Refusal.{replyLimit, callNumber}
-use Rattle.refusal.specs.Refusal.Laws.{refused-alike}
+use Rattle.serial_port.specs.Refusal.{replyLimit, callNumber}
+use Rattle.serial_port.specs.Refusal.Laws.{refused-alike}
 use Rattle.serial_port.specs.declared.port.Port.{Port}
 use Rattle.serial_port.specs.declared.port.Called.{Called}
 

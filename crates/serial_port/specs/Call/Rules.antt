@@ -7,11 +7,11 @@ use lib.IntN.{ℤ}
 use lib.ListN.{length}
 use lib.Seq.{sets}
 use Rattle.text.specs.Cut.{has, indexOf, before}
-use Rattle.shape.specs.Shape.{lineLimit}
-use Rattle.answer.specs.Answer.{answer}
+use Rattle.syntax.specs.Shape.{lineLimit}
+use Rattle.line.specs.Answer.{answer}
 use Rattle.serial_port.specs.Port.{view, fresh, join}
 use Rattle.serial_port.specs.Call.{finish, replied, waiting, tell, call, tells, Answers, answers}
-use Rattle.refusal.specs.Refusal.{callNumber}
+use Rattle.serial_port.specs.Refusal.{callNumber}
 use Rattle.serial_port.specs.Call.Laws.{step-finishes, step-waits}
 use Rattle.serial_port.specs.declared.port.Port.{Port}
 

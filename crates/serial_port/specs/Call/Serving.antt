@@ -15,20 +15,20 @@ use mir.Val.{Fits}
 use Rattle.text.specs.Cut.{indexOf, has, before}
 use Rattle.room.specs.Table.{sound}
 use Rattle.values.specs.Values.{valuesSound}
-use Rattle.shape.specs.Shape.{lineLimit}
-use Rattle.answer.specs.Answer.{answer}
+use Rattle.syntax.specs.Shape.{lineLimit}
+use Rattle.line.specs.Answer.{answer}
 use Rattle.serial_port.specs.Port.{view, fresh}
 use Rattle.serial_port.specs.Port.Collecting.{Collects, seen-by, few-by}
 use Rattle.serial_port.specs.Call.{Answers, finish}
-use Rattle.refusal.specs.Refusal.{callNumber, replyLimit}
+use Rattle.serial_port.specs.Refusal.{callNumber, replyLimit}
 use Rattle.serial_port.specs.Call.Finishing.{Finishes, finishes}
-use Rattle.refusal.specs.Refusal.Laws.{accepted}
-use Rattle.refusal.specs.Refusal.Telling.{none-told}
+use Rattle.serial_port.specs.Refusal.Laws.{accepted}
+use Rattle.serial_port.specs.Refusal.Telling.{none-told}
 use Rattle.serial_port.specs.Call.Rules.{returns-refused, returns-waiting, returns-finished}
 use Rattle.serial_port.specs.declared.port.Port.{Port}
 use Rattle.text.specs.Cut.Laws.{index-within}
 use Rattle.text.specs.Part.{part-counts}
-use Rattle.written.specs.Written.Laws.{past-by, bytes-by}
+use Rattle.text.specs.Written.Laws.{past-by, bytes-by}
 
 -- ---- a call with its number
 

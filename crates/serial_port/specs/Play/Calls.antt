@@ -9,14 +9,14 @@ use lib.ListN.{length, take, drop}
 use lib.Seq.{sets, drop-length}
 use Rattle.text.specs.Cut.{has, indexOf, before, after}
 use Rattle.room.specs.Table.{sound}
-use Rattle.shape.specs.Shape.{lineLimit}
-use Rattle.answer.specs.Answer.{answer}
+use Rattle.syntax.specs.Shape.{lineLimit}
+use Rattle.line.specs.Answer.{answer}
 use Rattle.serial_port.specs.Port.{view, fresh, join}
 use Rattle.serial_port.specs.Port.Laws.{claim-view, claim-join}
 use Rattle.serial_port.specs.Call.{step, finish, replied, waiting, tell, call, tells, Handed, Answers}
-use Rattle.refusal.specs.Refusal.{replyLimit}
+use Rattle.serial_port.specs.Refusal.{replyLimit}
 use Rattle.serial_port.specs.Call.Laws.{step-finishes, step-waits, written-first, reply-fits, told-by, handed-by}
-use Rattle.refusal.specs.Refusal.Laws.{accepted}
+use Rattle.serial_port.specs.Refusal.Laws.{accepted}
 use Rattle.serial_port.specs.Play.{Played, ended, replyFirst, play, feed}
 use Rattle.serial_port.specs.Play.Feed.{finished, feed-nothing, feed-waits, feed-finishes}
 use Rattle.serial_port.specs.Play.Kept.{finish-keeps}

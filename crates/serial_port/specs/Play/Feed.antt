@@ -10,9 +10,9 @@ use lib.IntN.{ℤ}
 use lib.ListN.{length, take}
 use Rattle.text.specs.Cut.{has, indexOf, before, after}
 use Rattle.text.specs.Cut.Lacking.{has-not, before-lacks, parts-joined, through-first}
-use Rattle.shape.specs.Shape.{lineLimit}
-use Rattle.acknowledgement.specs.Acknowledgement.{nak}
-use Rattle.answer.specs.Answer.{Answer}
+use Rattle.syntax.specs.Shape.{lineLimit}
+use Rattle.spelling.specs.Acknowledgement.{nak}
+use Rattle.line.specs.Answer.{Answer}
 use Rattle.serial_port.specs.Port.{View, fresh, claim, join}
 use Rattle.serial_port.specs.Port.Laws.{fresh-few, join-nothing, join-join, join-fresh, join-overruns, claim-join}
 use Rattle.serial_port.specs.Call.{Answering, finish}

@@ -7,7 +7,7 @@ use native.Mathlib.Omega.{arith}
 use lib.Dec.{eqb}
 use lib.IntN.{ℤ}
 use lib.ListN.{length}
-use Rattle.shape.specs.Shape.{lineLimit}
+use Rattle.syntax.specs.Shape.{lineLimit}
 use Rattle.serial_port.specs.Port.{View, held, over, fresh, claim, join}
 use Rattle.serial_port.specs.Port.Laws.{fresh-none, fresh-few, claim-join, claim-join-length}
 use Rattle.serial_port.specs.Call.{Answering, finish}

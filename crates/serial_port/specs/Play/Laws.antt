@@ -8,17 +8,17 @@ use lib.IntN.{ℤ}
 use lib.ListN.{length, length-drop}
 use lib.Seq.{drop-length}
 use Rattle.text.specs.Cut.{has, before, after}
-use Rattle.shape.specs.Shape.{lineLimit}
-use Rattle.answer.specs.Answer.{answer}
-use Rattle.answer.specs.Answer.Laws.{values-stay-sound}
+use Rattle.syntax.specs.Shape.{lineLimit}
+use Rattle.line.specs.Answer.{answer}
+use Rattle.line.specs.Answer.Laws.{values-stay-sound}
 use Rattle.room.specs.Table.{sound}
 use Rattle.values.specs.Values.{valuesSound}
 use Rattle.serial_port.specs.Port.{View, fresh, claim, join}
 use Rattle.serial_port.specs.Port.Laws.{fresh-few, claim-join}
 use Rattle.serial_port.specs.Call.{Answering, finish, replied, waiting}
-use Rattle.refusal.specs.Refusal.{replyLimit}
+use Rattle.serial_port.specs.Refusal.{replyLimit}
 use Rattle.serial_port.specs.Call.Laws.{step-finishes, step-waits}
-use Rattle.refusal.specs.Refusal.Laws.{accepted}
+use Rattle.serial_port.specs.Refusal.Laws.{accepted}
 use Rattle.serial_port.specs.Play.{replyFirst, first, playFrom, refusal, play, feed}
 use Rattle.serial_port.specs.Play.Feed.{finished, feed-waits, feed-finishes, feed-serves}
 use Rattle.serial_port.specs.Play.Kept.{Keeps, finish-keeps}

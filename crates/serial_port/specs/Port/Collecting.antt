@@ -7,12 +7,12 @@ use native.Mathlib.Omega.{arith}
 use lib.ListN.{length, take, drop, length-append}
 use lib.Seq.{sets, sets-eq, take-at, length-take-le}
 use Rattle.text.specs.Part.{part-counts}
-use Rattle.written.specs.Written.{Wrote}
-use Rattle.shape.specs.Shape.{lineLimit}
+use Rattle.text.specs.Written.{Wrote}
+use Rattle.syntax.specs.Shape.{lineLimit}
 use Rattle.serial_port.specs.Port.{view, fit, join}
 use Rattle.serial_port.specs.Port.Laws.{fit-short, fit-long}
 use Rattle.serial_port.specs.declared.port.Port.{Port}
-use Rattle.written.specs.Written.Laws.{past-by, bytes-by}
+use Rattle.text.specs.Written.Laws.{past-by, bytes-by}
 
 -- the port q after bs were joined to the line of p: the longer line, and a claim of at most 64 bytes
 pub data Collects (p : Port) (bs : List ℕ) (q : Port) : Type 0 where

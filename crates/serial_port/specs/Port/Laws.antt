@@ -7,7 +7,7 @@ use native.Mathlib.Omega.{arith}
 use borrow.Author.Tests.{leb-true, leb-false, le-leb, lt-leb}
 use lib.Dec.{leb}
 use lib.ListN.{length, take, length-append, length-take}
-use Rattle.shape.specs.Shape.{lineLimit}
+use Rattle.syntax.specs.Shape.{lineLimit}
 use Rattle.serial_port.specs.Port.{View, held, over, view, Same, both-over, both-held, fresh, claim, fit, join}
 use Rattle.serial_port.specs.declared.port.Port.{Port}
 

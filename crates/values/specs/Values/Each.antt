@@ -12,10 +12,10 @@ use lib.ListN.{length, getD, take, drop, length-drop}
 use lib.Seq.{drop-drop}
 use Rattle.catalogue.specs.Catalogue.{rowsOf}
 use Rattle.room.specs.Table.{sound}
-use Rattle.body.specs.Body.{bodyLength}
-use Rattle.parameter.specs.Parameters.{parameters, parametersOf}
-use Rattle.parameter.specs.Parameters.Walk.{Counted, counted-all, counted-next, counted-start, module-count, moduleHere, parametersAt, parameters-end, parameters-next, parameters-start}
-use Rattle.parameter.specs.declared.Parameter.{Parameter}
+use Rattle.record.specs.Body.{bodyLength}
+use Rattle.values.specs.Parameters.{parameters, parametersOf}
+use Rattle.values.specs.Parameters.Walk.{Counted, counted-all, counted-next, counted-start, module-count, moduleHere, parametersAt, parameters-end, parameters-next, parameters-start}
+use Rattle.values.specs.declared.parameter.Parameter.{Parameter}
 
 -- f tests each of some parameters with its value
 pub record Tests (f : List Parameter → List ℤ → Bool) : Type 0 where

@@ -9,11 +9,11 @@ use lib.ListN.{length, drop, take, length-append}
 use Rattle.text.specs.Every.{both-left, both-right}
 use Rattle.catalogue.specs.Catalogue.{known, rowsOf}
 use Rattle.catalogue.specs.Catalogue.Laws.{rows-few}
-use Rattle.parameter.specs.Parameters.{parameters, parametersIn}
-use Rattle.parameter.specs.Parameters.Laws.{length-parametersOf}
+use Rattle.values.specs.Parameters.{parameters, parametersIn}
+use Rattle.values.specs.Parameters.Laws.{length-parametersOf}
 use Rattle.room.specs.Table.{modules, modulesFrom, recordLimit, recordsSound, sound}
-use Rattle.body.specs.Body.{bodyLength, bodySound}
-use Rattle.field.specs.Field.{fieldSound}
+use Rattle.record.specs.Body.{bodyLength, bodySound}
+use Rattle.record.specs.Field.{fieldSound}
 
 body-known : (kind : ℕ) (body : List ℕ) → bodySound kind body ≡ true → known kind ≡ true
 unfolding bodySound

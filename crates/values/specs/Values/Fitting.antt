@@ -10,14 +10,14 @@ use lib.IntN.{ℤ}
 use lib.ListN.{length, getD, take, drop}
 use Rattle.catalogue.specs.Catalogue.{rowsOf}
 use Rattle.text.specs.Part.{part-left}
-use Rattle.parameter.specs.Parameters.{numbered, parametersOf}
-use Rattle.parameter.specs.Parameters.Walk.{moduleHere}
-use Rattle.row.specs.Row.{permitted}
-use Rattle.body.specs.Body.{bodyLength}
+use Rattle.values.specs.Parameters.{numbered, parametersOf}
+use Rattle.values.specs.Parameters.Walk.{moduleHere}
+use Rattle.catalogue.specs.Row.{permitted}
+use Rattle.record.specs.Body.{bodyLength}
 use Rattle.values.specs.Values.{eachPermitted, valuesSound}
-use Rattle.module_values.specs.Permit.{rowsPermit}
+use Rattle.values.specs.Permit.{rowsPermit}
 use Rattle.values.specs.Values.Each.{Each, Tests, each-all, each-next, each-short, each-start, each-wrong}
-use Rattle.row.specs.declared.Row.{Row}
+use Rattle.catalogue.specs.declared.row.Row.{Row}
 use Rattle.room.specs.declared.table.Module.{Module}
 
 tests : Tests eachPermitted

@@ -9,12 +9,12 @@ use lib.Dec.{eqb}
 use lib.IntN.{ℤ, pos, negsuc}
 use lib.ListN.{length, set, getD, length-set}
 use Rattle.text.specs.Every.{both-left, both-right}
-use Rattle.parameter.specs.Parameters.{parameters, parameterAt}
-use Rattle.parameter.specs.Parameters.Places.{found-same, never-found}
-use Rattle.row.specs.Row.{permitted}
+use Rattle.values.specs.Parameters.{parameters, parameterAt}
+use Rattle.values.specs.Parameters.Places.{found-same, never-found}
+use Rattle.catalogue.specs.Row.{permitted}
 use Rattle.values.specs.Values.{eachPermitted, equal, valuesSound}
-use Rattle.parameter.specs.declared.Parameter.{Parameter}
-use Rattle.parameter.specs.declared.ParameterFound.the-variants.{At}
+use Rattle.values.specs.declared.parameter.Parameter.{Parameter}
+use Rattle.values.specs.declared.parameter.ParameterFound.the-variants.{At}
 
 pub equal-refl : (v : ℤ) → equal v v ≡ true
 unfolding equal

@@ -8,11 +8,11 @@ use borrow.Author.Tests.{eqb-true}
 use lib.Dec.{eqb}
 use lib.IntN.{ℤ}
 use lib.ListN.{length}
-use Rattle.row.specs.Row.{permitted}
+use Rattle.catalogue.specs.Row.{permitted}
 use Rattle.text.specs.Every.{both-left, both-right}
-use Rattle.parameter.specs.Parameters.{parameters}
+use Rattle.values.specs.Parameters.{parameters}
 use Rattle.values.specs.Values.{eachPermitted, valuesSound}
-use Rattle.parameter.specs.declared.Parameter.{Parameter}
+use Rattle.values.specs.declared.parameter.Parameter.{Parameter}
 use Rattle.wish.specs.Target.{Wish, chosen, chosenPermitted, wantedRight, targetOf, target}
 use Rattle.values.specs.Values.Laws.{values-right, values-many, values-each}
 

@@ -12,7 +12,7 @@ use lib.Seq.{drop-cons}
 use Rattle.catalogue.specs.Catalogue.{known, rowsOf}
 use Rattle.text.specs.Every.{every}
 use Rattle.room.specs.Table.{modules, sound}
-use Rattle.body.specs.Body.{bodyLength}
+use Rattle.record.specs.Body.{bodyLength}
 use Rattle.room.specs.Table.Walk.{Walk, place-fits, walk-counted, walk-few, walk-known, walk-next, walk-numbered, walk-start}
 use mir.Syntax.{w64}
 use mir.Val.{Fits}

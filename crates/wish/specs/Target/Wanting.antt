@@ -9,14 +9,14 @@ use lib.Dec.{eqb}
 use lib.IntN.{ℤ}
 use lib.ListN.{length, getD, take, drop}
 use Rattle.catalogue.specs.Catalogue.{rowsOf}
-use Rattle.row.specs.Row.{permitted}
-use Rattle.row.specs.declared.Row.{Row}
+use Rattle.catalogue.specs.Row.{permitted}
+use Rattle.catalogue.specs.declared.row.Row.{Row}
 use Rattle.room.specs.Table.{modules, sound}
-use Rattle.body.specs.Body.{bodyLength}
+use Rattle.record.specs.Body.{bodyLength}
 use Rattle.room.specs.Table.Walk.{walk-numbered}
-use Rattle.parameter.specs.Parameters.{numbered, parametersOf}
-use Rattle.parameter.specs.Parameters.Walk.{moduleHere}
-use Rattle.module_values.specs.Permit.{rowsPermit}
+use Rattle.values.specs.Parameters.{numbered, parametersOf}
+use Rattle.values.specs.Parameters.Walk.{moduleHere}
+use Rattle.values.specs.Permit.{rowsPermit}
 use Rattle.values.specs.Values.Each.{Each, Tests, each-all, each-next, each-short, each-start, each-wrong}
 use Rattle.room.specs.declared.table.Module.{Module}
 use Rattle.text.specs.Every.{both-left, every}

@@ -1,6 +1,6 @@
 -- `answer_all`: from read to read the values stay right, and the port claims at most 64 bytes.
 use borrow.Author.Needs.{needs}
-use Rattle.standard_input.specs.Input.{Reads, reads}
+use Rattle.port.specs.Input.{Reads, reads}
 use Rattle.port.proofs.input.answer_all.Statement.{statement}
 use Rattle.port.proofs.input.answer_all.Tie as tie
 

@@ -1,2 +1,0 @@
--- ACK, and NAK with a code.
-pub mod Acknowledgement

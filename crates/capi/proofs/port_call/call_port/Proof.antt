@@ -1,0 +1,24 @@
+-- `call_port`: the call on the port that the bytes say, and its port stored.
+use borrow.Author.Needs.{needs}
+use Rattle.capi.specs.Port.Calling.{calling}
+use Rattle.capi.proofs.port_call.call_port.Statement.{statement}
+use Rattle.capi.proofs.port_call.call_port.Tie as tie
+
+pub call-port-spec : {M : Type 1} → statement M
+call-port-spec =
+    tie.close
+    (tie.spec
+    (λ c κs. search (calling, needs))  -- port-of-requires
+    (λ c κs. search (calling, needs))  -- take-requires
+    (λ c κs. search (calling, needs))  -- tell-two-requires
+    (λ c. search (calling, needs))  -- same-length
+    (λ c. search (calling, needs))  -- same-length-2
+    (λ c. search (calling, needs))  -- same-length-3
+    (λ c. search (calling, needs))  -- same-length-4
+    (λ c. search (calling, needs))  -- returns
+    (λ c κs. search (calling, needs))  -- store-requires
+    (λ c. search (calling, needs))  -- same-length-5
+    (λ c. search (calling, needs))  -- same-length-6
+    (λ c. search (calling, needs))  -- same-length-7
+    (λ c. search (calling, needs))  -- same-length-8
+    (λ c. search (calling, needs)))  -- returns-2

@@ -1,2 +1,0 @@
--- The indices of a row, written.
-pub mod IndexText

@@ -1,2 +1,0 @@
--- Labels: the one module that bears a text.
-pub mod Label

@@ -1,2 +1,0 @@
--- How long a text will be.
-pub mod Measuring

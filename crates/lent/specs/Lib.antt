@@ -1,2 +1,0 @@
--- What C lends: the port as bytes.
-pub mod Port

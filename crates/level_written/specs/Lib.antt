@@ -1,2 +1,0 @@
--- How level texts are written.
-pub mod Writing

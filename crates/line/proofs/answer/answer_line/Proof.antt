@@ -1,0 +1,26 @@
+-- `answer_line`: by what the line means.
+use borrow.Author.Needs.{needs}
+use Rattle.line.specs.Answer.Replying.{answering}
+use Rattle.line.proofs.answer.answer_line.Statement.{statement}
+use Rattle.line.proofs.answer.answer_line.Tie as tie
+
+pub answer-line-spec : {M : Type 1} → statement M
+answer-line-spec =
+    tie.close
+    (tie.spec
+    (λ c κs. search (answering, needs))  -- meaning-of-requires
+    (λ c. search (answering, needs))  -- enum-known-n
+    (λ c κs. search (answering, needs))  -- put-nak-requires
+    (λ c. search (answering, needs))  -- enum-known-p
+    (λ c κs. search (answering, needs))  -- tell-requires
+    (λ c. search (answering, needs))  -- enum-known-p-2
+    (λ c κs. search (answering, needs))  -- put-requires
+    (λ c. search (answering, needs))  -- same-length
+    (λ c. search (answering, needs))  -- same-length-2
+    (λ c. search (answering, needs))  -- returns
+    (λ c. search (answering, needs))  -- same-length-3
+    (λ c. search (answering, needs))  -- same-length-4
+    (λ c. search (answering, needs))  -- returns-2
+    (λ c. search (answering, needs))  -- same-length-5
+    (λ c. search (answering, needs))  -- same-length-6
+    (λ c. search (answering, needs)))  -- returns-3

@@ -1,0 +1,16 @@
+-- `indexed`: the index part is right, and says the indices.
+use borrow.Author.Needs.{needs}
+use Rattle.line.specs.Meaning.Reading.{indexed-rules}
+use Rattle.line.proofs.meaning.indexed.Statement.{statement}
+use Rattle.line.proofs.meaning.indexed.Tie as tie
+
+pub indexed-spec : {M : Type 1} → statement M
+indexed-spec =
+    tie.close
+    (tie.spec
+    (λ c κs. search (indexed-rules, needs))  -- read-indices-requires
+    (λ c. search (indexed-rules, needs))  -- enum-known-indices
+    (λ c κs. search (indexed-rules, needs))  -- named-requires
+    (λ c. search (indexed-rules, needs))  -- enum-told
+    (λ c. search (indexed-rules, needs))  -- returns
+    (λ c. search (indexed-rules, needs)))  -- returns-2

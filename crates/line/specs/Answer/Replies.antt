@@ -1,0 +1,48 @@
+-- Replies of whole answers: how long they are, and what the answer to a get line tells.
+use mathlib.Core.Path.{_≡_}
+use mathlib.Core.Bool.{true}
+use mathlib.Core.List.{List}
+use Prim.Native.Nat.{ℕ, _+_, _≤_}
+use native.Mathlib.Omega.{arith}
+use lib.IntN.{ℤ, pos}
+use lib.ListN.{length, getD}
+use Rattle.room.specs.Label.{label, bearer}
+use Rattle.values.specs.Parameters.{place}
+use Rattle.room.specs.Table.{sound}
+use Rattle.values.specs.Values.{valuesSound}
+use Rattle.values.specs.Values.Laws.{value-permitted}
+use Rattle.room.specs.declared.label.Bearer.the-variants.{Only}
+use Rattle.values.specs.declared.parameter.Parameter.{Parameter}
+use Rattle.syntax.specs.Shape.{part}
+use Rattle.line.specs.Meaning.{meaning}
+use Rattle.line.specs.Meaning.Laws.{Gets, names-label, get-told}
+use Rattle.spelling.specs.Reply.{getReply}
+use Rattle.spelling.specs.Acknowledgement.{ack, nak}
+use Rattle.line.specs.Told.{Told, reply-told}
+use Rattle.line.specs.Answer.{act, answer}
+use Rattle.line.specs.Answer.Laws.{Effect, refused, told, put, gets-place, answered, effect}
+use Rattle.line.specs.declared.meaning.Meaning.the-variants.{Get}
+
+pub gets-label : (t line : List ℕ) (p : Parameter) → sound t ≡ true → Gets t line p → bearer t (label t (p .owner)) ≡ Only (p .owner)
+gets-label t line p s h = names-label t (part line (h .quote + 1) (h .close)) (part line (h .close + 1) (length line)) p s (h .names)
+
+module _ (t : List ℕ) (vs : List ℤ) (line : List ℕ) (s : sound t ≡ true) (v : valuesSound t vs ≡ true) where
+  gets-told : (p : Parameter) → Gets t line p → Told t p (getD vs (place p) (pos 0)) (getReply t p (getD vs (place p) (pos 0)))
+  gets-told p g =
+      let e = gets-place t line p s g in
+      reply-told t (place p) p (getD vs (place p) (pos 0)) s e (gets-label t line p s g) (value-permitted t vs (place p) p v e)
+
+  -- the answer to a get line names its parameter and tells the present value
+  pub get-answer : (p : Parameter) → meaning t vs line ≡ Get p → Told t p (getD vs (place p) (pos 0)) (answer t vs line .reply)
+  unfolding act
+  get-answer p e = rw (answered t vs line (Get p) e) (gets-told p (get-told t vs line p e))
+
+  -- no reply is longer than 51 bytes
+  pub reply-limit : length (answer t vs line .reply) ≤ 51
+  unfolding ack nak
+  reply-limit = go (effect t vs line s)
+    where
+      go : Effect t vs line → length (answer t vs line .reply) ≤ 51
+      go (refused n m e) = rw e (omega arith)
+      go (told p m g l e) = rw e (gets-told p g .short)
+      go (put p x m g l e) = rw e (omega arith)

@@ -1,0 +1,156 @@
+-- Rules for the code that answers a line, by what the line means.
+use mathlib.Core.Path.{_≡_, sym, _∙_, ap, subst}
+use mathlib.Core.Bool.{true}
+use mathlib.Core.List.{List}
+use Prim.Native.Nat.{ℕ, _+_, _<_, _≤_}
+use native.Mathlib.Omega.{arith}
+use lib.Dec.{lit<}
+use lib.IntN.{ℤ, pos}
+use lib.ListN.{length, getD, set}
+use mir.Facts.{toZ-ofZ}
+use mir.Syntax.{w64}
+use mir.Val.{SFits}
+use Rattle.text.specs.Written.{Wrote}
+use Rattle.catalogue.specs.Row.Laws.{bits}
+use Rattle.room.specs.Label.Laws.{bearer-found}
+use Rattle.values.specs.Parameters.{place}
+use Rattle.room.specs.Table.{sound}
+use Rattle.values.specs.Values.{valuesSound}
+use Rattle.values.specs.Values.Laws.{value-inside}
+use Rattle.room.specs.Label.{bearer}
+use Rattle.room.specs.declared.label.Bearer.{Bearer}
+use Rattle.room.specs.declared.label.Bearer.the-variants.{Only, NotOne}
+use Rattle.values.specs.declared.parameter.Parameter.{Parameter}
+use Rattle.values.specs.declared.parameter.ParameterFound.{ParameterFound}
+use Rattle.values.specs.declared.parameter.ParameterFound.the-variants.{At, Nothing}
+use Rattle.syntax.specs.Shape.{part, shape}
+use Rattle.syntax.specs.declared.shape.Shape.{Shape}
+use Rattle.syntax.specs.declared.shape.Shape.the-variants as shape
+use Rattle.syntax.specs.declared.index_part.IndexPart.{IndexPart}
+use Rattle.syntax.specs.declared.value_text.ValueText.{ValueText}
+use Rattle.syntax.specs.declared.value_text.ValueText.the-variants as value
+use Rattle.line.specs.Answer.{Answers, answers, act}
+use Rattle.line.specs.Answer.Laws.{answered, gets-place, puts-place}
+use Rattle.line.specs.Answer.Replies.{gets-label, reply-limit}
+use Rattle.line.specs.Meaning.{Target, target, code, getOf, inModule, inRoom, indexed, meaning, ofShape, putOf, setOf}
+use Rattle.line.specs.Meaning.Laws.{get-told, put-told}
+use Rattle.spelling.specs.Reply.{getReply}
+use Rattle.spelling.specs.Acknowledgement.{ack, nak}
+use Rattle.line.specs.declared.meaning.Meaning.{Meaning}
+use Rattle.line.specs.declared.meaning.Meaning.the-variants.{Code, Get, Put}
+
+-- ---- telling and setting one parameter
+
+-- the values hold the parameter's value, its module's record lies in the table, and the reply is short
+pub record Tellable (t : List ℕ) (vs : List ℤ) (p : Parameter) : Type 0 where
+  pub within : p .owner .first + p .number < length vs
+  pub room : p .owner .place + 33 ≤ length t
+  pub short : length (getReply t p (getD vs (place p) (pos 0))) ≤ 64
+
+pub tell-room : (t : List ℕ) (vs : List ℤ) (p : Parameter) (buffer : List ℕ) → Tellable t vs p → 64 ≤ length buffer → SFits w64 (getD vs (p .owner .first + p .number) (pos 0))
+    → length (getReply t p (bits (getD vs (p .owner .first + p .number) (pos 0)))) ≤ length buffer
+unfolding place
+tell-room t vs p buffer h l f =
+    let e : getReply t p (bits (getD vs (p .owner .first + p .number) (pos 0))) ≡ getReply t p (getD vs (p .owner .first + p .number) (pos 0)) = ap (getReply t p) (toZ-ofZ f) in
+    omega (arith, ap length e, h .short)
+
+pub told-value : (t : List ℕ) (vs : List ℤ) (p : Parameter) (buffer : List ℕ) (r : ℕ) (buffer′ : List ℕ) → SFits w64 (getD vs (p .owner .first + p .number) (pos 0))
+    → Wrote buffer 0 (getReply t p (bits (getD vs (p .owner .first + p .number) (pos 0)))) r buffer′
+    → Wrote buffer 0 (getReply t p (getD vs (place p) (pos 0))) r buffer′
+unfolding place
+told-value t vs p buffer r buffer′ f w = rw (toZ-ofZ f) at w
+
+pub ruleset telling = (tell-room, told-value)
+
+pub set-value : (vs : List ℤ) (p : Parameter) (x : ℤ) → SFits w64 x → set vs (p .owner .first + p .number) (bits x) ≡ set vs (place p) x
+unfolding place
+set-value vs p x f = ap (set vs (p .owner .first + p .number)) (toZ-ofZ f)
+
+pub ruleset putting = (set-value)
+
+-- ---- a line, by its meaning
+
+-- codes have two digits
+abbrev Small : Meaning → Type 0
+Small (Code n) = n < 100
+Small (Get p) = Unit {0}
+Small (Put p x) = Unit {0}
+
+abbrev SmallTarget : Target → Type 0
+SmallTarget (target p) = Unit {0}
+SmallTarget (code n) = n < 100
+
+in-module : (f : ParameterFound) → SmallTarget (inModule f)
+unfolding inModule
+in-module (At p) = tt
+in-module Nothing = lit< tt
+
+in-room : (b : Bearer) (i : IndexPart) → SmallTarget (inRoom b i)
+unfolding inRoom
+in-room NotOne i = lit< tt
+in-room (Only m) i = in-module (indexed m i)
+
+small-get : (g : Target) → SmallTarget g → Small (getOf g)
+unfolding getOf
+small-get (target p) h = tt
+small-get (code n) h = h
+
+small-put : (p : Parameter) (v : ValueText) → Small (putOf p v)
+unfolding putOf
+small-put p (value.Value x) = tt
+small-put p value.Wrong = lit< tt
+
+small-set : (vs : List ℤ) (text : List ℕ) (g : Target) → SmallTarget g → Small (setOf vs text g)
+unfolding setOf
+small-set vs text (target p) h = small-put p _
+small-set vs text (code n) h = h
+
+small-shape : (t : List ℕ) (vs : List ℤ) (line : List ℕ) (s : Shape) → Small (ofShape t vs line s)
+unfolding ofShape
+small-shape t vs line shape.Malformed = lit< tt
+small-shape t vs line (shape.Get o c) = small-get _ (in-room (bearer t (part line (o + 1) c)) _)
+small-shape t vs line (shape.Set o c e) = small-set vs _ _ (in-room (bearer t (part line (o + 1) c)) _)
+
+code-small : (t : List ℕ) (vs : List ℤ) (line : List ℕ) (n : ℕ) → meaning t vs line ≡ Code n → n < 100
+unfolding meaning
+code-small t vs line n e = subst Small e (small-shape t vs line (shape line))
+
+module _ (t : List ℕ) (vs : List ℤ) (line : List ℕ) (m : Meaning) (e : m ≡ meaning t vs line) where
+  pub code-below : (n : ℕ) → m ≡ Code n → n < 100
+  code-below n h = code-small t vs line n (sym e ∙ h)
+
+  pub get-tellable : (p : Parameter) → m ≡ Get p → sound t ≡ true → valuesSound t vs ≡ true → Tellable t vs p
+  unfolding place act
+  get-tellable p h s v =
+      let told = sym e ∙ h in
+      let g = get-told t vs line p told in
+      record {
+        within = value-inside t vs (p .owner .first + p .number) p v (gets-place t line p s g);
+        room = bearer-found t _ (p .owner) s (gets-label t line p s g) .room;
+        short = omega (arith, reply-limit t vs line s v, ap (λ a. length (a .reply)) (answered t vs line (Get p) told));
+      }
+
+  pub put-within : (p : Parameter) (x : ℤ) → m ≡ Put p x → sound t ≡ true → valuesSound t vs ≡ true → p .owner .first + p .number < length vs
+  unfolding place
+  put-within p x h s v = value-inside t vs (p .owner .first + p .number) p v (puts-place t vs line p x s (put-told t vs line p x (sym e ∙ h)))
+
+  module _ (buffer : List ℕ) (r : ℕ) (buffer′ : List ℕ) where
+    pub answers-code : (n : ℕ) → m ≡ Code n → Wrote buffer 0 (nak n) r buffer′ → Answers t vs line buffer r vs buffer′
+    unfolding act
+    answers-code n h w =
+        let a = answered t vs line (Code n) (sym e ∙ h) in
+        answers (rw a w) (sym (ap (λ b. b .values) a))
+
+    pub answers-get : (p : Parameter) → m ≡ Get p → Wrote buffer 0 (getReply t p (getD vs (place p) (pos 0))) r buffer′ → Answers t vs line buffer r vs buffer′
+    unfolding act
+    answers-get p h w =
+        let a = answered t vs line (Get p) (sym e ∙ h) in
+        answers (rw a w) (sym (ap (λ b. b .values) a))
+
+    pub answers-put : (p : Parameter) (x : ℤ) (vs′ : List ℤ) → m ≡ Put p x → Wrote buffer 0 ack r buffer′ → vs′ ≡ set vs (place p) x → Answers t vs line buffer r vs′ buffer′
+    unfolding act
+    answers-put p x vs′ h w k =
+        let a = answered t vs line (Put p x) (sym e ∙ h) in
+        answers (rw a w) (k ∙ sym (ap (λ b. b .values) a))
+
+pub ruleset answering = (code-below, get-tellable, put-within, answers-code, answers-get, answers-put)

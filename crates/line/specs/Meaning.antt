@@ -1,0 +1,68 @@
+-- What a line means: the first code that applies, a parameter to tell, or a parameter and the value that it is set to.
+pub mod Laws
+pub mod Reading
+use mathlib.Core.List.{List}
+use Prim.Native.Nat.{ℕ, _+_}
+use lib.IntN.{ℤ, pos}
+use lib.ListN.{length, getD}
+use Rattle.room.specs.Label.{bearer}
+use Rattle.values.specs.Parameters.{named, place}
+use Rattle.room.specs.declared.label.Bearer.{Bearer}
+use Rattle.room.specs.declared.label.Bearer.the-variants.{Only, NotOne}
+use Rattle.room.specs.declared.table.Module.{Module}
+use Rattle.values.specs.declared.parameter.Parameter.{Parameter}
+use Rattle.values.specs.declared.parameter.ParameterFound.{ParameterFound}
+use Rattle.values.specs.declared.parameter.ParameterFound.the-variants.{At, Nothing}
+use Rattle.syntax.specs.Shape.{shape, part}
+use Rattle.syntax.specs.IndexPart.{readIndices}
+use Rattle.syntax.specs.Value.{readValue}
+use Rattle.syntax.specs.declared.shape.Shape.{Shape}
+use Rattle.syntax.specs.declared.shape.Shape.the-variants as shape
+use Rattle.syntax.specs.declared.index_part.IndexPart.{IndexPart}
+use Rattle.syntax.specs.declared.index_part.IndexPart.the-variants as index
+use Rattle.syntax.specs.declared.value_text.ValueText.{ValueText}
+use Rattle.syntax.specs.declared.value_text.ValueText.the-variants as value
+use Rattle.line.specs.declared.meaning.Meaning.{Meaning}
+use Rattle.line.specs.declared.meaning.Meaning.the-variants.{Code, Get, Put}
+
+-- the parameter of the module m that the index part names
+unfoldable pub indexed : Module → IndexPart → ParameterFound
+indexed m (index.Right i) = named m i
+indexed m index.Wrong = Nothing
+
+-- the parameter that a label and an index part name, or the code 1 or 2
+pub data Target : Type 0 where
+  target : Parameter → Target
+  code : ℕ → Target
+
+unfoldable pub inModule : ParameterFound → Target
+inModule (At p) = target p
+inModule Nothing = code 2
+
+unfoldable pub inRoom : Bearer → IndexPart → Target
+inRoom (Only m) i = inModule (indexed m i)
+inRoom NotOne i = code 1
+
+-- a set line's value text, where its parameter is known: the value, or the code 3
+unfoldable pub putOf : Parameter → ValueText → Meaning
+putOf p (value.Value x) = Put p x
+putOf p value.Wrong = Code 3
+
+unfoldable pub getOf : Target → Meaning
+getOf (target p) = Get p
+getOf (code n) = Code n
+
+unfoldable pub setOf : List ℤ → List ℕ → Target → Meaning
+setOf vs text (target p) = putOf p (readValue (p .row) (getD vs (place p) (pos 0)) text)
+setOf vs text (code n) = Code n
+
+-- the parts of a line, in the order of the codes: 99 its shape, 1 its label, 2 its index part, 3 its value text
+unfoldable pub ofShape : List ℕ → List ℤ → List ℕ → Shape → Meaning
+ofShape t vs line shape.Malformed = Code 99
+ofShape t vs line (shape.Get o c) = getOf (inRoom (bearer t (part line (o + 1) c)) (readIndices (part line (c + 1) (length line))))
+ofShape t vs line (shape.Set o c e) =
+    setOf vs (part line (e + 1) (length line)) (inRoom (bearer t (part line (o + 1) c)) (readIndices (part line (c + 1) e)))
+
+-- what a line means in the room of table t and values vs
+unfoldable pub meaning : List ℕ → List ℤ → List ℕ → Meaning
+meaning t vs line = ofShape t vs line (shape line)

@@ -1,0 +1,192 @@
+-- Rules for the code that finds what a line means, part by part.
+use mathlib.Core.Path.{_≡_, sym, _∙_}
+use mathlib.Core.Bool.{true}
+use mathlib.Core.List.{List}
+use Prim.Native.Nat.{ℕ, _+_, _-_, _<_}
+use lib.IntN.{ℤ, pos}
+use lib.ListN.{length, getD, take, drop}
+use Rattle.catalogue.specs.Catalogue.{known}
+use Rattle.catalogue.specs.Row.{permitted}
+use Rattle.catalogue.specs.Row.Laws.{RowFits, bits}
+use Rattle.room.specs.Label.{bearer}
+use Rattle.room.specs.Label.Laws.{bearer-found}
+use Rattle.values.specs.Parameters.{named, parameterAt, parameters, place}
+use Rattle.values.specs.Parameters.Each.{parameter-fits}
+use Rattle.room.specs.Table.{sound}
+use Rattle.values.specs.Values.{valuesSound}
+use Rattle.values.specs.Values.Laws.{value-inside, value-permitted}
+use Rattle.catalogue.specs.declared.row.Indices.{Indices}
+use Rattle.room.specs.declared.label.Bearer.{Bearer}
+use Rattle.room.specs.declared.label.Bearer.the-variants.{Only, NotOne}
+use Rattle.room.specs.declared.table.Module.{Module}
+use Rattle.values.specs.declared.parameter.Parameter.{Parameter}
+use Rattle.values.specs.declared.parameter.ParameterFound.{ParameterFound}
+use Rattle.values.specs.declared.parameter.ParameterFound.the-variants.{At, Nothing}
+use Rattle.syntax.specs.Shape.{shape, part}
+use Rattle.syntax.specs.Shape.Laws.{set-ordered}
+use Rattle.syntax.specs.Shape.Reading.{get-ordered}
+use Rattle.syntax.specs.IndexPart.{readIndices}
+use Rattle.syntax.specs.Value.{readValue}
+use Rattle.syntax.specs.Value.Laws.{value-told}
+use Rattle.syntax.specs.Value.Reading.{permitted-bits}
+use Rattle.line.specs.Meaning.{indexed, Target, target, code, inModule, inRoom, putOf, getOf, setOf, ofShape, meaning}
+use Rattle.line.specs.Meaning.Laws.{names-told, names-place}
+use Rattle.line.specs.declared.meaning.Target as declared
+use Rattle.line.specs.declared.meaning.Target.the-variants as aimed
+use Rattle.syntax.specs.declared.shape.Shape.{Shape}
+use Rattle.syntax.specs.declared.shape.Shape.the-variants as shape
+use Rattle.syntax.specs.declared.index_part.IndexPart.{IndexPart}
+use Rattle.syntax.specs.declared.index_part.IndexPart.the-variants as index
+use Rattle.syntax.specs.declared.value_text.ValueText.{ValueText}
+use Rattle.syntax.specs.declared.value_text.ValueText.the-variants as value
+use Rattle.line.specs.declared.meaning.Meaning.{Meaning}
+use Rattle.line.specs.declared.meaning.Meaning.the-variants.{Code, Get, Put}
+
+-- ---- the index part, in a module
+
+module _ (m : Module) (s : List ℕ) (x : IndexPart) (e : x ≡ readIndices s) where
+  pub index-wrong : x ≡ index.Wrong → Nothing ≡ indexed m (readIndices s)
+  unfolding indexed
+  index-wrong h = rw (sym e ∙ h)
+
+  pub index-right : (i : Indices) (r : ParameterFound) → x ≡ index.Right i → r ≡ named m i → r ≡ indexed m (readIndices s)
+  unfolding indexed
+  index-right i r h g = g ∙ rw (sym e ∙ h)
+
+pub ruleset indexed-rules = (index-wrong, index-right)
+
+-- ---- the label
+
+-- the code's answer, as the definition has it
+unfoldable pub aim : declared.Target → Target
+aim (aimed.At p) = target p
+aim (aimed.Code n) = code n
+
+module _ (t text s : List ℕ) (b : Bearer) (e : b ≡ bearer t text) where
+  pub not-one : b ≡ NotOne → aim (aimed.Code 1) ≡ inRoom (bearer t text) (readIndices s)
+  unfolding aim inRoom
+  not-one h = rw (sym e ∙ h)
+
+  module _ (m : Module) (h : b ≡ Only m) where
+    pub bearer-known : sound t ≡ true → known (m .kind) ≡ true
+    bearer-known sd = bearer-found t text m sd (sym e ∙ h) .kinds
+
+    module _ (f : ParameterFound) (g : f ≡ indexed m (readIndices s)) where
+      pub one-named : (p : Parameter) → f ≡ At p → aim (aimed.At p) ≡ inRoom (bearer t text) (readIndices s)
+      unfolding aim inRoom inModule
+      one-named p k = rw (sym e ∙ h, sym g ∙ k)
+
+      pub none-named : f ≡ Nothing → aim (aimed.Code 2) ≡ inRoom (bearer t text) (readIndices s)
+      unfolding aim inRoom inModule
+      none-named k = rw (sym e ∙ h, sym g ∙ k)
+
+pub ruleset target-rules = (not-one, bearer-known, one-named, none-named)
+
+-- ---- the value text
+
+-- the values hold a parameter's value, which its row permits
+pub record Holds (vs : List ℤ) (p : Parameter) : Type 0 where
+  pub within : p .owner .first + p .number < length vs
+  pub fits : RowFits (p .row)
+  pub permits : permitted (p .row) (getD vs (p .owner .first + p .number) (pos 0)) ≡ true
+
+module _ (vs : List ℤ) (p : Parameter) (h : Holds vs p) where
+  pub held-fits : RowFits (p .row)
+  held-fits = h .fits
+
+  plain : bits (getD vs (p .owner .first + p .number) (pos 0)) ≡ getD vs (p .owner .first + p .number) (pos 0)
+  plain = permitted-bits (p .row) (getD vs (p .owner .first + p .number) (pos 0)) (h .fits) (h .permits)
+
+  pub held-permitted : permitted (p .row) (bits (getD vs (p .owner .first + p .number) (pos 0))) ≡ true
+  held-permitted = rw plain (h .permits)
+
+  module _ (s : List ℕ) (w : ValueText) (e : w ≡ readValue (p .row) (bits (getD vs (p .owner .first + p .number) (pos 0))) s) where
+    said : w ≡ readValue (p .row) (getD vs (p .owner .first + p .number) (pos 0)) s
+    said = rw plain at e
+
+    pub put-said : (x : ℤ) → w ≡ value.Value x → Put p (bits x) ≡ putOf p (readValue (p .row) (getD vs (place p) (pos 0)) s)
+    unfolding putOf place
+    put-said x k =
+        let v = value-told (p .row) (getD vs (p .owner .first + p .number) (pos 0)) s x (sym said ∙ k) in
+        rw (← said, k, permitted-bits (p .row) x (h .fits) (v .permits))
+
+    pub put-wrong : w ≡ value.Wrong → Code 3 ≡ putOf p (readValue (p .row) (getD vs (place p) (pos 0)) s)
+    unfolding putOf place
+    put-wrong k = rw (← said, k)
+
+pub ruleset put-rules = (held-fits, held-permitted, put-said, put-wrong)
+
+-- ---- a line's parts, by its shape
+
+-- what is named has its place in the values
+named-held : (t label s : List ℕ) (vs : List ℤ) (p : Parameter) → inRoom (bearer t label) (readIndices s) ≡ target p → sound t ≡ true
+    → valuesSound t vs ≡ true → Holds vs p
+unfolding valuesSound place
+named-held t label s vs p e sd vd =
+    let k = p .owner .first + p .number in
+    let at : parameterAt (parameters t) k ≡ At p = names-place t label s p sd (names-told t label s p e) in
+    record { within = value-inside t vs k p vd at; fits = parameter-fits t k p at; permits = value-permitted t vs k p vd at }
+
+module _ (t line : List ℕ) (o c : ℕ) (g : declared.Target) where
+  module _ (e : aim g ≡ inRoom (bearer t (take (c - (o + 1)) (drop (o + 1) line))) (readIndices (take (length line - (c + 1)) (drop (c + 1) line)))) where
+    pub get-named : (p : Parameter) → g ≡ aimed.At p
+        → Get p ≡ getOf (inRoom (bearer t (part line (o + 1) c)) (readIndices (part line (c + 1) (length line))))
+    unfolding getOf part aim
+    get-named p h = rw (← e, h)
+
+    pub get-coded : (n : ℕ) → g ≡ aimed.Code n
+        → Code n ≡ getOf (inRoom (bearer t (part line (o + 1) c)) (readIndices (part line (c + 1) (length line))))
+    unfolding getOf part aim
+    get-coded n h = rw (← e, h)
+
+  module _ (q : ℕ) (vs : List ℤ) (e : aim g ≡ inRoom (bearer t (take (c - (o + 1)) (drop (o + 1) line))) (readIndices (take (q - (c + 1)) (drop (c + 1) line)))) where
+    pub set-held : (p : Parameter) → g ≡ aimed.At p → sound t ≡ true → valuesSound t vs ≡ true → Holds vs p
+    unfolding aim
+    set-held p h sd vd =
+        let f : aim g ≡ target p = rw h in
+        named-held t (take (c - (o + 1)) (drop (o + 1) line)) (take (q - (c + 1)) (drop (c + 1) line)) vs p (sym e ∙ f) sd vd
+
+    pub set-named : (p : Parameter) (r : Meaning) → g ≡ aimed.At p
+        → r ≡ putOf p (readValue (p .row) (getD vs (place p) (pos 0)) (take (length line - (q + 1)) (drop (q + 1) line))) → r ≡ ofShape t vs line (shape.Set o c q)
+    unfolding ofShape setOf part aim
+    set-named p r h f = f ∙ rw (← e, h)
+
+    pub set-coded : (n : ℕ) → g ≡ aimed.Code n → Code n ≡ ofShape t vs line (shape.Set o c q)
+    unfolding ofShape setOf part aim
+    set-coded n h = rw (← e, h)
+
+pub ruleset get-rules = (get-named, get-coded)
+
+pub ruleset set-rules = (set-held, set-named, set-coded)
+
+module _ (t : List ℕ) (vs : List ℤ) (line : List ℕ) (s : Shape) (e : s ≡ shape line) where
+  pub malformed : s ≡ shape.Malformed → Code 99 ≡ meaning t vs line
+  unfolding meaning ofShape
+  malformed h = rw (sym e ∙ h)
+
+  module _ (o c : ℕ) (h : s ≡ shape.Get o c) where
+    pub get-label : o < c
+    get-label = get-ordered line o c (sym e ∙ h) .ordered
+
+    pub get-closed : c < length line
+    get-closed = get-ordered line o c (sym e ∙ h) .ends
+
+    pub get-means : (r : Meaning) → r ≡ getOf (inRoom (bearer t (part line (o + 1) c)) (readIndices (part line (c + 1) (length line)))) → r ≡ meaning t vs line
+    unfolding meaning ofShape
+    get-means r g = g ∙ rw (sym e ∙ h)
+
+  module _ (o c q : ℕ) (h : s ≡ shape.Set o c q) where
+    pub set-label : o < c
+    set-label = set-ordered line o c q (sym e ∙ h) .label
+
+    pub set-indices : c < q
+    set-indices = set-ordered line o c q (sym e ∙ h) .indices
+
+    pub set-divided : q < length line
+    set-divided = set-ordered line o c q (sym e ∙ h) .ends
+
+    pub set-means : (r : Meaning) → r ≡ ofShape t vs line (shape.Set o c q) → r ≡ meaning t vs line
+    unfolding meaning
+    set-means r g = g ∙ rw (sym e ∙ h)
+
+pub ruleset meaning-rules = (malformed, get-label, get-closed, get-means, set-label, set-indices, set-divided, set-means)

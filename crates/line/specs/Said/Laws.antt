@@ -1,0 +1,83 @@
+-- The set line that is written is made of bytes, has no 0D, and reads back as a put of its value.
+use mathlib.Core.Path.{_≡_, refl}
+use mathlib.Core.Bool.{true}
+use mathlib.Core.List.{List, append-assoc}
+use Prim.Native.Nat.{ℕ, _≤_}
+use native.Mathlib.Omega.{arith}
+use lib.IntN.{ℤ, pos}
+use lib.ListN.{length, getD, set}
+use Rattle.text.specs.Byte.{isByte}
+use Rattle.text.specs.Cut.{indexOf}
+use Rattle.text.specs.Digits.{isDigit}
+use Rattle.text.specs.Every.{every}
+use Rattle.text.specs.ValueBytes.{valueByte}
+use Rattle.room.specs.Label.{label, bearer}
+use Rattle.values.specs.Parameters.{parameters, parameterAt, place}
+use Rattle.catalogue.specs.Row.{permitted}
+use Rattle.room.specs.Table.{sound}
+use Rattle.catalogue.specs.declared.row.Kind.{Kind}
+use Rattle.room.specs.declared.label.Bearer.the-variants.{Only}
+use Rattle.values.specs.declared.parameter.Parameter.{Parameter}
+use Rattle.values.specs.declared.parameter.ParameterFound.the-variants.{At}
+use Rattle.syntax.specs.Shape.Laws.{setLine}
+use Rattle.line.specs.Said.Bytes.{say-bytes}
+use Rattle.line.specs.Said.Texts.{text-back, text-short, text-lacks}
+use Rattle.line.specs.Meaning.{meaning}
+use Rattle.line.specs.Meaning.Laws.{puts-back}
+use Rattle.spelling.specs.Name.{name}
+use Rattle.spelling.specs.Acknowledgement.{ack}
+use Rattle.line.specs.Answer.{act, answer}
+use Rattle.line.specs.Answer.Laws.{Puttable, answered}
+use Rattle.spelling.specs.Say.{say}
+use Rattle.spelling.specs.Text.{setText}
+use Rattle.line.specs.Said.Naming.{Reached, reached, naming, parts-put, reached-sized, naming-short, naming-parts, rest, naming-rest, rest-no-return, verb-no-return}
+use Rattle.line.specs.declared.meaning.Meaning.the-variants.{Put}
+
+pub say-naming : (t : List ℕ) (p : Parameter) (v x : ℤ) → say t p v x ≡ naming t p (setText (p .row .kind) x)
+unfolding say name naming setLine
+say-naming t p v x = simp append-assoc
+
+no-return : (k : Kind) (x : ℤ) → indexOf 0x0D (setText k x) ≡ length (setText k x)
+unfolding valueByte isDigit
+no-return k x = text-lacks 0x0D k x refl
+
+naming-whole : (t : List ℕ) (p : Parameter) → Reached t p → (w : List ℕ) → indexOf 0x0D w ≡ length w → indexOf 0x0D (naming t p w) ≡ length (naming t p w)
+naming-whole t p r w h =
+    rw (naming-rest t p w) (verb-no-return 0x53 0x41 (rest t p w) (λ e. omega arith) (λ e. omega arith) (rest-no-return t p r w h))
+
+-- a line without 0D that puts x at p
+pub record Said (t : List ℕ) (p : Parameter) (x : ℤ) (line : List ℕ) : Type 0 where
+  pub bytes : every isByte line ≡ true
+  pub whole : indexOf 0x0D line ≡ length line
+  pub short : length line ≤ 50
+  pub means : (vs : List ℤ) → meaning t vs line ≡ Put p x
+
+naming-said : (t : List ℕ) (p : Parameter) (v x : ℤ) → Reached t p → p .row .settable ≡ true → permitted (p .row) x ≡ true
+    → Said t p x (naming t p (setText (p .row .kind) x))
+naming-said t p v x r s h =
+    let z = reached-sized t p r x h in
+    let w = setText (p .row .kind) x in
+    let short = text-short (p .row .kind) x z in
+    record {
+      bytes = rw (say-naming t p v x) at (say-bytes t p v x (r .right));
+      whole = naming-whole t p r w (no-return (p .row .kind) x);
+      short = naming-short t p r w short;
+      means = λ vs. puts-back t vs (naming t p w) p x
+          (parts-put t vs p w (naming t p w) x (naming-parts t p r w short)
+          (record { settable = s; says = text-back (p .row .kind) x (getD vs (place p) (pos 0)) z; permits = h }));
+    }
+
+-- the set line of a value that p's row permits
+pub say-said : (t : List ℕ) (k : ℕ) (p : Parameter) (v x : ℤ) → sound t ≡ true → parameterAt (parameters t) k ≡ At p
+    → bearer t (label t (p .owner)) ≡ Only (p .owner) → p .row .settable ≡ true → permitted (p .row) x ≡ true → Said t p x (say t p v x)
+say-said t k p v x s e o w h = rw (say-naming t p v x) (naming-said t p v x (reached t k p s e o) w h)
+
+-- whatever some line can put, the set line that is written puts
+pub say-puttable : (t : List ℕ) (p : Parameter) (v x : ℤ) → sound t ≡ true → Puttable t p x → Said t p x (say t p v x)
+say-puttable t p v x s h = let r = h .reached in say-said t (place p) p v x s (r .listed) (r .only) (r .settable) (h .permits)
+
+-- it is acknowledged, and sets the value at p's place
+pub said-answer : (t : List ℕ) (vs : List ℤ) (p : Parameter) (x : ℤ) (line : List ℕ) → Said t p x line
+    → answer t vs line ≡ record { reply = ack; values = set vs (place p) x }
+unfolding act
+said-answer t vs p x line h = answered t vs line (Put p x) (h .means vs)

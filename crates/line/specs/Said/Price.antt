@@ -1,0 +1,56 @@
+-- No line that puts a value is shorter than the set line that is written for it.
+use mathlib.Core.Path.{_≡_, ap}
+use mathlib.Core.Bool.{true}
+use mathlib.Core.List.{List}
+use Prim.Native.Nat.{ℕ, _+_, _-_, _≤_}
+use native.Mathlib.Omega.{arith}
+use lib.IntN.{ℤ, pos}
+use lib.ListN.{length, getD, length-take, length-drop}
+use Rattle.room.specs.Label.{label}
+use Rattle.room.specs.Label.Laws.{bearer-found}
+use Rattle.values.specs.Parameters.{place}
+use Rattle.values.specs.Parameters.Named.{named-told}
+use Rattle.room.specs.Table.{sound}
+use Rattle.values.specs.declared.parameter.Parameter.{Parameter}
+use Rattle.syntax.specs.Shape.{part}
+use Rattle.syntax.specs.Shape.Laws.{set-line-length, set-ordered}
+use Rattle.line.specs.Said.Indices.{indices-shortest}
+use Rattle.line.specs.Said.Texts.{text-shortest}
+use Rattle.line.specs.Meaning.{meaning}
+use Rattle.line.specs.Meaning.Laws.{Names, put-told}
+use Rattle.spelling.specs.IndexText.{indexText}
+use Rattle.spelling.specs.Say.{say}
+use Rattle.spelling.specs.Text.{setText}
+use Rattle.line.specs.Said.Naming.{naming}
+use Rattle.line.specs.Said.Laws.{say-naming}
+use Rattle.line.specs.declared.meaning.Meaning.the-variants.{Put}
+
+part-length : (line : List ℕ) (a e : ℕ) → e ≤ length line → length (part line a e) ≡ e - a
+unfolding part
+part-length line a e h = simp (length-take, length-drop) (omega arith)
+
+say-length : (t : List ℕ) (p : Parameter) (v x : ℤ)
+    → length (say t p v x) ≡ 5 + length (label t (p .owner)) + length (indexText (p .row .indices)) + length (setText (p .row .kind) x)
+unfolding naming
+say-length t p v x = rw (say-naming t p v x) (set-line-length (label t (p .owner)) (indexText (p .row .indices)) (setText (p .row .kind) x))
+
+-- the label stands in the line as in the table, and the indices take no less than their digits
+names-length : (t text indices : List ℕ) (p : Parameter) → sound t ≡ true → Names t text indices p
+    → length (label t (p .owner)) + length (indexText (p .row .indices)) ≤ length text + length indices
+names-length t text indices p s h =
+    let l : length (label t (p .owner)) ≡ length text = ap length (bearer-found t text (p .owner) s (h .one) .labelled) in
+    let i : length (indexText (p .row .indices)) ≡ length (indexText (h .groups)) =
+    ap (λ g. length (indexText g)) (named-told (p .owner) (h .groups) p (h .names) .indices) in
+    omega (arith, indices-shortest indices (h .groups) (h .right))
+
+pub say-shortest : (t : List ℕ) (vs : List ℤ) (line : List ℕ) (p : Parameter) (v x : ℤ) → sound t ≡ true → meaning t vs line ≡ Put p x
+    → length (say t p v x) ≤ length line
+say-shortest t vs line p v x s e =
+    let h = put-told t vs line p x e in
+    let o = set-ordered line (h .quote) (h .close) (h .equal) (h .shaped) in
+    let n = names-length t (part line (h .quote + 1) (h .close)) (part line (h .close + 1) (h .equal)) p s (h .names) in
+    let w = text-shortest (p .row .kind) (getD vs (place p) (pos 0)) x (part line (h .equal + 1) (length line)) (h .valued .says) in
+    let a = part-length line (h .quote + 1) (h .close) (omega arith) in
+    let b = part-length line (h .close + 1) (h .equal) (omega arith) in
+    let c = part-length line (h .equal + 1) (length line) (omega arith) in
+    omega (arith, say-length t p v x)

@@ -1,0 +1,104 @@
+-- The worked lines: one list of cases on the table A, type 1 `T` and type 2 `S`, and one statement over it.
+use mathlib.Core.Path.{_≡_, refl}
+use mathlib.Core.Bool.{Bool, true, false, _&&_}
+use mathlib.Core.List.{List, [], _∷_, _++_}
+use Prim.Native.Nat.{ℕ}
+use Prim.Native.Char.{code}
+use Prim.Native.String as string
+use Prim.Native.String.{String}
+use lib.IntN.{ℤ, pos, negℤ}
+use lib.ListN.{replicate, set}
+use Rattle.text.specs.Cut.{indexOf, has, before, after}
+use Rattle.text.specs.Digits.{isDigit, allDigits, readOn, numberOf, digitsWithin, digits}
+use Rattle.text.specs.Level.{signed, levelTenth, levelPoint, levelMore, levelWhole, readLevel}
+use Rattle.text.specs.Number.{numberForm, readNumber}
+use Rattle.text.specs.Switch.{switchLetter, readSwitch, switchText}
+use Rattle.catalogue.specs.Catalogue.{minus, level, switch, number, catalogue, rowsIn, rowsOf}
+use Rattle.catalogue.specs.Row.{permitted, sameIndices}
+use Rattle.room.specs.Table.{recordLimit, modulesFrom, modules}
+use Rattle.record.specs.Body.{bodyLength}
+use Rattle.room.specs.Label.{label, same, bearersIn, exactlyOne, bearer}
+use Rattle.values.specs.Parameters.{numbered, parametersOf, place, withIndices, named}
+use Rattle.syntax.specs.Shape.{lineLimit, isSet, isGet, opening, firstFrom, closing, equals, getShape, setShape, quoted, shape, part}
+use Rattle.syntax.specs.IndexPart.{oneGroup, twoGroups, groups, readIndices}
+use Rattle.syntax.specs.Value.{ofLevel, ofNumber, ofSwitch, readKind, onlyPermitted, readValue}
+use Rattle.line.specs.Meaning.{indexed, inModule, inRoom, putOf, getOf, setOf, ofShape, meaning}
+use Rattle.spelling.specs.Name.{name}
+use Rattle.spelling.specs.IndexText.{indexText}
+use Rattle.spelling.specs.Reply.{getReply}
+use Rattle.spelling.specs.Text.{textOf}
+use Rattle.spelling.specs.Acknowledgement.{ack, nak}
+use Rattle.line.specs.Answer.{Answer, act, answer}
+use Rattle.values.specs.Values.{equal}
+use Rattle.text.specs.Every.{every}
+
+-- a line on the values all 0, and what it is answered with
+pub record Case : Type 0 where
+  pub line : List ℕ
+  pub reply : List ℕ
+  pub values : List ℤ
+
+-- a record whose label is one byte
+unfoldable pub oneByteRecord : (kind byte : ℕ) → List ℕ
+oneByteRecord kind byte = kind ∷ byte ∷ replicate 31 0
+
+unfoldable pub tableA : List ℕ
+tableA = oneByteRecord 1 0x54 ++ oneByteRecord 2 0x53
+
+unfoldable pub zeros : List ℤ
+zeros = replicate 7 (pos 0)
+
+-- the bytes of a text
+unfoldable pub bytes : String → List ℕ
+bytes string.[] = []
+bytes (string._∷_ c s) = code c ∷ bytes s
+
+-- a set line that is acknowledged and puts x into the value k; a get line; a line that is refused with a code
+unfoldable pub puts : String → ℕ → ℤ → Case
+puts line k x = record { line = bytes line; reply = 0x06 ∷ 0x0D ∷ []; values = set zeros k x }
+
+unfoldable pub told : String → String → Case
+told line reply = record { line = bytes line; reply = bytes reply ++ (0x0D ∷ []); values = zeros }
+
+unfoldable pub refused : String → String → Case
+refused line code = record { line = bytes line; reply = 0x15 ∷ (bytes code ++ (0x0D ∷ [])); values = zeros }
+
+unfoldable pub cases : List Case
+cases =
+    puts "SA\"T\">1=15" 0 (pos 150) ∷
+    refused "SA\"T\">1=15.1" "03" ∷
+    puts "SA \"T\">01=-04" 0 (negℤ (pos 40)) ∷
+    puts "SA\"T\">1=-0" 0 (pos 0) ∷
+    refused "SA\"T\">1=.5" "03" ∷
+    puts "SA\"T\">2=T" 1 (pos 1) ∷
+    told "GA\"S\">1" "GA\"S\">1=F" ∷
+    refused "SA\"Q\">9=x" "01" ∷
+    refused "SA\"T\">9=x" "02" ∷
+    refused "SA\"T\">1>0=1" "02" ∷
+    refused "SA\"T\">1" "99" ∷
+    []
+
+-- value for value the same
+unfoldable pub sameValues : List ℤ → List ℤ → Bool
+sameValues [] [] = true
+sameValues [] (y ∷ ys) = false
+sameValues (x ∷ xs) [] = false
+sameValues (x ∷ xs) (y ∷ ys) = equal x y && sameValues xs ys
+
+unfoldable pub sameAnswer : Answer → Case → Bool
+sameAnswer a c = same (a .reply) (c .reply) && sameValues (a .values) (c .values)
+
+-- a line is answered as its case says
+unfoldable pub answered : Case → Bool
+answered c = sameAnswer (answer tableA zeros (c .line)) c
+
+pub worked : every answered cases ≡ true
+unfolding answered cases bytes puts told refused tableA oneByteRecord zeros sameAnswer sameValues equal
+    indexOf has before after isDigit allDigits every readOn numberOf digitsWithin digits
+    signed levelTenth levelPoint levelMore levelWhole readLevel numberForm readNumber switchLetter readSwitch switchText
+    minus level switch number catalogue rowsIn rowsOf permitted bodyLength recordLimit modulesFrom modules
+    label same bearersIn exactlyOne bearer numbered parametersOf place sameIndices withIndices named
+    lineLimit isSet isGet opening firstFrom closing equals getShape setShape quoted shape part
+    oneGroup twoGroups groups readIndices ofLevel ofNumber ofSwitch readKind onlyPermitted readValue
+    indexed inModule inRoom putOf getOf setOf ofShape meaning ack nak indexText textOf name getReply act answer
+worked = refl

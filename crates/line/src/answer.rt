@@ -1,0 +1,62 @@
+// The answer to a line: the reply, and the values afterwards.
+use crate::meaning::Meaning;
+use crate::meaning::meaning_of;
+use spelling::acknowledgement::put_ack;
+use spelling::acknowledgement::put_nak;
+use spelling::reply::put_get;
+use values::parameter::Parameter;
+ghost use mathlib.Core.Bool.{true};
+ghost use mathlib.Core.Path.{_≡_};
+ghost use Prim.Native.Nat.{_+_, _<_, _≤_};
+ghost use lib.IntN.{pos};
+ghost use lib.ListN.{getD, length, set};
+ghost use Rattle.text.specs.Written.{Wrote};
+ghost use Rattle.catalogue.specs.Catalogue.{numbers};
+ghost use Rattle.values.specs.Parameters.{place};
+ghost use Rattle.room.specs.Table.{sound};
+ghost use Rattle.values.specs.Values.{valuesSound};
+ghost use Rattle.line.specs.Answer.{Answers};
+ghost use Rattle.line.specs.Answer.Replying.{Tellable};
+ghost use Rattle.spelling.specs.Reply.{getReply};
+ghost use Rattle.spelling.specs.Acknowledgement.{ack};
+
+// Tells the present value of a parameter.
+fn tell(table: &[u8], values: &[i64], p: Parameter, reply: &mut [u8]) -> usize
+    requires { ⌜ Tellable (now table) (now values) p ⌝ }
+    requires { ⌜ 64 ≤ length (now reply) ⌝ }
+    ensures { λ r. ⌜ Wrote (now (reply .entry)) 0 (getReply (now (table .entry)) p (getD (now (values .entry)) (place p) (pos 0))) r (now (reply .exit)) ⌝ }
+{
+    let place = p.owner.first + p.number;
+    put_get(table, p, values[place], reply)
+}
+
+// Sets the value of a parameter, and acknowledges.
+fn put(values: &mut [i64], p: Parameter, x: i64, reply: &mut [u8]) -> usize
+    requires { ⌜ p .owner .first + p .number < length (now values) ⌝ }
+    requires { ⌜ 64 ≤ length (now reply) ⌝ }
+    ensures { λ r. ⌜ Wrote (now (reply .entry)) 0 ack r (now (reply .exit)) ⌝ }
+    ensures { λ _. ⌜ now (values .exit) ≡ set (now (values .entry)) (place p) x ⌝ }
+{
+    let place = p.owner.first + p.number;
+    values[place] = x;
+    put_ack(reply)
+}
+
+// Answers a line: writes the reply at its buffer's start, tells its length, and sets the value that the line puts.
+pub fn answer_line(
+    table: &[u8],
+    rows: &[[i32; 8]; 50],
+    values: &mut [i64],
+    line: &[u8],
+    reply: &mut [u8],
+) -> usize
+    requires { ⌜ (sound (now table) ≡ true) × (now rows ≡ numbers) × (valuesSound (now table) (now values) ≡ true) ⌝ }
+    requires { ⌜ 64 ≤ length (now reply) ⌝ }
+    ensures { λ r. ⌜ Answers (now (table .entry)) (now (values .entry)) (now (line .entry)) (now (reply .entry)) r (now (values .exit)) (now (reply .exit)) ⌝ }
+{
+    match meaning_of(table, rows, values, line) {
+        Meaning::Code(n) => put_nak(reply, n),
+        Meaning::Get(p) => tell(table, values, p, reply),
+        Meaning::Put(p, x) => put(values, p, x, reply),
+    }
+}

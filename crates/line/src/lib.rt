@@ -1,0 +1,3 @@
+// What a line means in a room, and the answer to it.
+pub mod answer;
+pub mod meaning;

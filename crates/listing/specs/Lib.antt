@@ -1,2 +1,0 @@
--- The restore list as a definition.
-pub mod Listing

@@ -1,1 +1,0 @@
-// The restore list as a definition: definitions and laws alone.

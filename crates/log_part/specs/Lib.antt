@@ -1,2 +1,0 @@
--- The label for the log, by its place.
-pub mod LogPart

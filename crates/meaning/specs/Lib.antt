@@ -1,2 +1,0 @@
--- What a line means in a room.
-pub mod Meaning

@@ -1,3 +1,0 @@
-// The lines of one module's rows, measured and written.
-pub mod measuring;
-pub mod writing;

@@ -1,2 +1,0 @@
--- Which values the rows of a module permit.
-pub mod Permit

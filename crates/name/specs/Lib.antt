@@ -1,2 +1,0 @@
--- How a line names a parameter.
-pub mod Name

@@ -1,3 +1,0 @@
--- Number texts.
-pub mod Number
-pub mod Examples

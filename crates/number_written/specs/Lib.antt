@@ -1,2 +1,0 @@
--- Rules for the code that writes number and switch texts.
-pub mod Writing

@@ -1,2 +1,0 @@
--- Parameters: number k, its module and its row, both ways.
-pub mod Parameters

@@ -1,0 +1,3 @@
+// A record of the module table: its kind, and its body, the field of a label.
+pub mod body;
+pub mod field;

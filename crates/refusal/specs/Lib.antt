@@ -1,2 +1,0 @@
--- Which number a port call is refused with.
-pub mod Refusal

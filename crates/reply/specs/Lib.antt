@@ -1,2 +1,0 @@
--- The answer to a get line.
-pub mod Reply

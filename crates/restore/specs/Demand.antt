@@ -1,0 +1,60 @@
+-- Demand 3: the restore list fulfils the wish, and no byte sequence that does is shorter.
+pub mod Exactly
+pub mod Laws
+pub mod Played
+pub mod Rules
+use mathlib.Core.Path.{_≡_}
+use mathlib.Core.Bool.{true, false}
+use mathlib.Core.List.{List}
+use Prim.Native.Nat.{ℕ, _≤_, _<_}
+use lib.ListN.{length, take, replicate}
+use Rattle.text.specs.Byte.{isByte}
+use Rattle.text.specs.Every.{every}
+use Rattle.values.specs.Parameters.{parameters}
+use Rattle.spelling.specs.Acknowledgement.{ack}
+use Rattle.serial_port.specs.Port.{fresh}
+use Rattle.serial_port.specs.Refusal.{replyLimit}
+use Rattle.serial_port.specs.Play.{play}
+use Rattle.wish.specs.Target.{Wish, target, differing}
+use Rattle.wish.specs.Listing.{Admitted, Told, restore}
+use Rattle.restore.specs.declared.demand.Restored.{Restored}
+
+-- played with a reply buffer of `replyRooms n` bytes for call n, it leaves chosen modules as wanted and every other parameter as it was
+pub record Fulfils (w : Wish) (replyRooms : ℕ → ℕ) (bs : List ℕ) : Type 0 where
+  pub served : play (w .table) replyRooms (w .present) bs .refused ≡ false
+  pub reached : play (w .table) replyRooms (w .present) bs .values ≡ target w
+
+-- a shortest one of all byte sequences that fulfil the wish; no list with other numbers in it is shorter either
+pub record Shortest (w : Wish) (replyRooms : ℕ → ℕ) (list : List ℕ) : Type 0 where
+  pub bytes : every isByte list ≡ true
+  pub fulfils : Fulfils w replyRooms list
+  pub least : (bs : List ℕ) → Fulfils w replyRooms bs → length list ≤ length bs
+
+-- the bytes told are a shortest list, at the start of the buffer; played, it is answered by as many ACKs as lines are told and by nothing else,
+-- and leaves the port fresh; the lines are as many as the parameters of chosen modules that differ
+pub record Listed (w : Wish) (replyRooms : ℕ → ℕ) (room : ℕ) (a : Told) : Type 0 where
+  pub shortest : Shortest w replyRooms (take (a .bytes) (a .buffer))
+  pub bytes : a .bytes ≡ length (take (a .bytes) (a .buffer))
+  pub fits : a .bytes ≤ room
+  pub acknowledged : play (w .table) replyRooms (w .present) (take (a .bytes) (a .buffer)) .replies ≡ replicate (a .lines) ack
+  pub ends : play (w .table) replyRooms (w .present) (take (a .bytes) (a .buffer)) .port ≡ fresh
+  pub lines : a .lines ≡ differing (w .selection) (parameters (w .table)) (w .present) (w .wanted)
+
+-- the answer of a restore call with a list buffer of `room` bytes: accepted, 7 where no byte sequence fulfils the wish,
+-- or 8 where the shortest that does is longer than the buffer
+pub data Demanded (w : Wish) (replyRooms : ℕ → ℕ) (room : ℕ) (a : Told) : Type 0 where
+  accepted : a .number ≡ 0 → Listed w replyRooms room a → Demanded w replyRooms room a
+  unreachable : a .number ≡ 7 → ((bs : List ℕ) → Fulfils w replyRooms bs → ⊥) → Demanded w replyRooms room a
+  no-room : a .number ≡ 8 → (list : List ℕ) → Shortest w replyRooms list → room < length list → Demanded w replyRooms room a
+
+-- demand 3, of a call that 1, 2, 5 and 6 do not refuse, played with reply buffers of 64 bytes or more
+abbrev pub DemandThree : Wish → (room : ℕ) → Told → Type 0
+DemandThree w room a = Admitted w → (replyRooms : ℕ → ℕ) → ((call : ℕ) → replyLimit ≤ replyRooms call) → Demanded w replyRooms room a
+
+-- what the answer r tells, with the list buffer as it is afterwards
+unfoldable pub tells : Restored → (buffer : List ℕ) → Told
+tells r buffer = record { number = r .number; bytes = r .bytes; lines = r .lines; buffer = buffer }
+
+-- the promise of the restore call: what it tells and writes, and demand 3
+pub data Restores (w : Wish) (buffer : List ℕ) (r : Restored) (buffer′ : List ℕ) : Type 0 where
+  restores : (told : tells r buffer′ ≡ restore w buffer) → (demand : DemandThree w (length buffer) (tells r buffer′)) → Restores w buffer r buffer′

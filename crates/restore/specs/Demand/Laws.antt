@@ -1,0 +1,143 @@
+-- Demand 3 holds. The list fulfils the wish, as each of its lines sets its parameter; and no sequence that does is shorter, as no line
+-- lowers the price of what is left by more than its bytes. A parameter beyond reach stays as it is, whatever is played.
+use mathlib.Core.Path.{_≡_, refl, sym, _∙_, ap}
+use mathlib.Core.Bool.{Bool, true, false, cond}
+use mathlib.Core.List.{List}
+use Prim.Native.Nat.{ℕ, _≤_}
+use native.Mathlib.Omega.{arith}
+use borrow.Author.Tests.{leb-true, leb-false}
+use lib.Dec.{leb}
+use lib.IntN.{pos}
+use lib.ListN.{length, getD}
+use Rattle.values.specs.Parameters.{parameters}
+use Rattle.line.specs.Answer.{answer}
+use Rattle.serial_port.specs.Port.{fresh}
+use Rattle.serial_port.specs.Port.Laws.{fresh-few}
+use Rattle.serial_port.specs.Refusal.{replyLimit}
+use Rattle.serial_port.specs.Call.Laws.{written-first}
+use Rattle.serial_port.specs.Play.{play, feed}
+use Rattle.serial_port.specs.Play.Kept.{feed-keeps, bound}
+use Rattle.serial_port.specs.Play.Laws.{Right, keeps-right, plays}
+use Rattle.wish.specs.Target.{Wish, target}
+use Rattle.wish.specs.Target.Laws.{target-right}
+use Rattle.restore.specs.Lines.{Lines}
+use Rattle.restore.specs.Lines.Promise.{promise}
+use Rattle.restore.specs.Lines.Reach.{Stays, keeps-unreachable}
+use Rattle.restore.specs.Lines.Price.{potential, lowers, price-reached, price-listing}
+use Rattle.wish.specs.Listing.{Admitted, changes, listing, allReachable, listNumber, tell, restore}
+use Rattle.wish.specs.Listing.Beyond.{beyond}
+use Rattle.wish.specs.Listing.Numbers.{number-list}
+use Rattle.wish.specs.Listing.Counted.{lines-differing}
+use Rattle.restore.specs.Demand.Played.{AllSayable, all-sayable, from-start, done, listing-bytes, play-listing}
+use Rattle.restore.specs.Demand.{Fulfils, Shortest, Listed, Demanded, accepted, unreachable, no-room, DemandThree, tells, Restores, restores}
+use Rattle.restore.specs.declared.demand.Restored.{Restored}
+use Rattle.values.specs.Values.Laws.{values-many, values-each}
+
+-- the list of a wish
+unfoldable pub list : Wish → List ℕ
+list w = listing (w .table) (changes w)
+
+module _ (w : Wish) (lines : Lines (w .table)) (admitted : Admitted w) (replyRooms : ℕ → ℕ) (enough : (call : ℕ) → replyLimit ≤ replyRooms call) where
+  played : (bs : List ℕ) → play (w .table) replyRooms (w .present) bs ≡ feed (answer (w .table)) fresh (w .present) bs
+  played bs = plays (w .table) (admitted .table) replyRooms enough (w .present) bs (admitted .present)
+
+  target-is-right : Right (w .table) (target w)
+  target-is-right = target-right w (admitted .present) (admitted .wanted)
+
+  -- ---- no sequence that fulfils the wish is shorter than the list
+
+  ends-at : (bs : List ℕ) → Fulfils w replyRooms bs → feed (answer (w .table)) fresh (w .present) bs .values ≡ target w
+  ends-at bs f = ap (λ p. p .values) (sym (played bs)) ∙ f .reached
+
+  least : (bs : List ℕ) → Fulfils w replyRooms bs → length (list w) ≤ length bs
+  unfolding list changes
+  least bs f =
+      let t = w .table in
+      let kept = keeps-right t (admitted .table) in
+      let b = bound (answer t) (Right t) kept (potential t (target w)) (lowers t lines (target w)) (w .present) bs (admitted .present) in
+      let e : potential t (target w) (feed (answer t) fresh (w .present) bs .values) ≡ 0 = rw (ends-at bs f) (price-reached t (parameters t) (target w)) in
+      omega (arith, b, e, price-listing t (parameters t) (w .present) (target w))
+
+  -- ---- where no change is beyond reach, the list fulfils the wish
+
+  sayable : allReachable (w .table) (changes w) ≡ true → AllSayable (w .table) (changes w)
+  unfolding changes
+  sayable r =
+      let t = w .table in
+      all-sayable t lines 0 (parameters t) (w .present) (target w) (from-start t) (values-each t (target w) target-is-right) r
+
+  listed : allReachable (w .table) (changes w) ≡ true → play (w .table) replyRooms (w .present) (list w) ≡ done (length (changes w)) (target w)
+  unfolding list changes
+  listed r =
+      let t = w .table in
+      played (list w)
+      ∙ play-listing t lines (w .present) (target w) (values-many t (w .present) (admitted .present)) (values-many t (target w) target-is-right) (sayable r)
+
+  shortest : allReachable (w .table) (changes w) ≡ true → Shortest w replyRooms (list w)
+  unfolding list
+  shortest r =
+      record {
+        bytes = listing-bytes (w .table) lines (changes w) (sayable r);
+        fulfils =
+            record {
+              served = ap (λ p. p .refused) (listed r) ∙ unfold done in refl;
+              reached = ap (λ p. p .values) (listed r) ∙ unfold done in refl;
+            };
+        least = least;
+      }
+
+  -- ---- where one is, no byte sequence does: its value stays as it is
+
+  none : allReachable (w .table) (changes w) ≡ false → (bs : List ℕ) → Fulfils w replyRooms bs → ⊥
+  unfolding changes
+  none r bs f =
+      let t = w .table in
+      let b = beyond t (parameters t) (w .present) (target w) r in
+      let v = getD (w .present) (b .number) (pos 0) in
+      let kept = keeps-unreachable t lines (b .number) (b .parameter) v (b .found) (b .blocked) in
+      let stays = feed-keeps (answer t) (Stays (b .number) v) kept fresh (w .present) bs fresh-few refl in
+      b .differs (sym stays ∙ ap (λ vs. getD vs (b .number) (pos 0)) (ends-at bs f))
+
+  -- ---- the answer
+
+  lists : (buffer : List ℕ) → length (list w) ≤ length buffer → allReachable (w .table) (changes w) ≡ true
+      → Listed w replyRooms (length buffer) (tell (w .table) 0 buffer (changes w))
+  unfolding tell list changes
+  lists buffer h r =
+      record {
+        shortest = rw (written-first buffer (list w) h) (shortest r);
+        bytes = rw (written-first buffer (list w) h) refl;
+        fits = h;
+        acknowledged = rw (written-first buffer (list w) h) (ap (λ p. p .replies) (listed r) ∙ unfold done in refl);
+        ends = rw (written-first buffer (list w) h) (ap (λ p. p .port) (listed r) ∙ unfold done in refl);
+        lines = unfold target in lines-differing (w .selection) (parameters (w .table)) (w .present) (w .wanted);
+      }
+
+  pub demanded : (buffer : List ℕ) → Demanded w replyRooms (length buffer) (restore w buffer)
+  unfolding restore listNumber list
+  demanded buffer =
+      rw (number-list w (length buffer) admitted)
+      (go (allReachable (w .table) (changes w)) (leb (length (list w)) (length buffer)) refl refl)
+    where
+      go : (r n : Bool) → allReachable (w .table) (changes w) ≡ r → leb (length (list w)) (length buffer) ≡ n
+          → Demanded w replyRooms (length buffer) (tell (w .table) (cond r (cond n 0 8) 7) buffer (changes w))
+      go false n r e = unreachable (unfold tell in refl) (none r)
+      go true false r e = no-room (unfold tell in refl) (list w) (shortest r) (leb-false (length (list w)) (length buffer) e)
+      go true true r e = accepted (unfold tell in refl) (lists buffer (leb-true (length (list w)) (length buffer) e) r)
+
+-- the whole of it, over the promise that the line layer keeps
+pub demand-three : (w : Wish) (buffer : List ℕ) → DemandThree w (length buffer) (restore w buffer)
+demand-three w buffer admitted replyRooms enough = demanded w (promise (w .table) (admitted .table)) admitted replyRooms enough buffer
+
+-- so the restore call's promise is kept once it tells and writes what it should
+pub told-restores : (w : Wish) (buffer : List ℕ) (r : Restored) (buffer′ : List ℕ) → tells r buffer′ ≡ restore w buffer → Restores w buffer r buffer′
+told-restores w buffer r buffer′ e = restores e (rw e (demand-three w buffer))
+
+-- ---- the two parts of the promise
+
+module _ {w : Wish} {buffer : List ℕ} {r : Restored} {buffer′ : List ℕ} where
+  pub told-by : Restores w buffer r buffer′ → tells r buffer′ ≡ restore w buffer
+  told-by (restores told demand) = told
+
+  pub demand-by : Restores w buffer r buffer′ → DemandThree w (length buffer) (tells r buffer′)
+  demand-by (restores told demand) = demand

@@ -1,0 +1,47 @@
+-- What the restore list rests on: the promise of the line layer over a table, as one record.
+pub mod Price
+pub mod Promise
+pub mod Reach
+use mathlib.Core.Path.{_≡_}
+use mathlib.Core.Bool.{true, false, cond}
+use mathlib.Core.List.{List}
+use Prim.Native.Nat.{ℕ, suc, _+_, _≤_}
+use lib.IntN.{ℤ, pos}
+use lib.ListN.{length, getD, set}
+use Rattle.text.specs.Byte.{isByte}
+use Rattle.text.specs.Cut.{has}
+use Rattle.text.specs.Every.{every}
+use Rattle.catalogue.specs.Row.{permitted}
+use Rattle.values.specs.Parameters.{parameters, place, parameterAt}
+use Rattle.values.specs.declared.parameter.Parameter.{Parameter}
+use Rattle.values.specs.declared.parameter.ParameterFound.the-variants.{At}
+use Rattle.syntax.specs.Shape.{lineLimit}
+use Rattle.spelling.specs.Acknowledgement.{ack}
+use Rattle.line.specs.Answer.{answer}
+use Rattle.line.specs.Answer.Laws.{Settable}
+use Rattle.spelling.specs.Say.{say}
+use Rattle.values.specs.Values.{equal}
+
+-- what it costs to take the parameter p from v to x: nothing where it is there, else a set line with its 0D
+unfoldable pub price : (table : List ℕ) → Parameter → (target present : ℤ) → ℕ
+price t p x v = cond (equal v x) 0 (suc (length (say t p v x)))
+
+-- what a line of any bytes does to the values: nothing, or it sets one parameter that lines can set; to whatever target
+-- the parameter is to come, the line and its 0D are at least as long as what they spare
+pub data Effect (t : List ℕ) (vs : List ℤ) (l : List ℕ) : Type 0 where
+  nothing : answer t vs l .values ≡ vs → Effect t vs l
+  puts : (p : Parameter) (x : ℤ) → Settable t p → answer t vs l .values ≡ set vs (place p) x
+      → ((target : ℤ) → price t p target (getD vs (place p) (pos 0)) ≤ length l + 1 + price t p target x) → Effect t vs l
+
+-- the set line that is written is one line of bytes, fits the port, is acknowledged and sets its parameter
+pub record Said (t : List ℕ) (p : Parameter) (x : ℤ) (l : List ℕ) : Type 0 where
+  pub bytes : every isByte l ≡ true
+  pub whole : has 0x0D l ≡ false
+  pub fits : length l ≤ lineLimit
+  pub answered : (vs : List ℤ) → answer t vs l ≡ record { reply = ack; values = set vs (place p) x }
+
+-- each parameter stands at its place, each line has an effect as above, and set lines do as `Said` says
+pub record Lines (t : List ℕ) : Type 0 where
+  pub placed : (k : ℕ) (p : Parameter) → parameterAt (parameters t) k ≡ At p → place p ≡ k
+  pub effect : (vs : List ℤ) (l : List ℕ) → Effect t vs l
+  pub says : (p : Parameter) (v x : ℤ) → Settable t p → permitted (p .row) x ≡ true → Said t p x (say t p v x)

@@ -1,0 +1,3 @@
+-- The restore list, measured and written.
+pub mod Measuring
+pub mod Writing

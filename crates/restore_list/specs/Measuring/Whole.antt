@@ -1,0 +1,108 @@
+-- Rules for measuring the whole list, module by module.
+use mathlib.Core.Path.{_≡_, refl, sym, _∙_}
+use mathlib.Core.Bool.{true, false}
+use mathlib.Core.List.{List, [], _++_}
+use Prim.Native.Nat.{ℕ, _+_, _*_, _≤_, _<_}
+use native.Mathlib.Omega.{arith}
+use lib.IntN.{ℤ}
+use lib.ListN.{length, getD, length-append}
+use mir.Syntax.{w64}
+use mir.Val.{Fits}
+use Rattle.catalogue.specs.Catalogue.{rowsOf}
+use Rattle.room.specs.Table.{sound}
+use Rattle.record.specs.Body.{bodyLength}
+use Rattle.room.specs.Table.Walk.{Walk, walk-few}
+use Rattle.values.specs.Parameters.Walk.{moduleHere}
+use Rattle.wish.specs.Listing.{Admitted, Change, allReachable, changes, listing}
+use Rattle.restore_list.specs.Measuring.{Measures, Standing, measured, measuredIf, moduleChanges}
+use Rattle.restore_list.specs.Measuring.Laws.{listing-append, reachable-append}
+use Rattle.restore_list.specs.Measuring.Told.{beyond-told, within-told}
+use Rattle.restore_list.specs.Measuring.Walk.{ChangeWalk, standing, walk-all, walk-changes, walk-none, wishOf}
+use Rattle.restore_list.specs.declared.module_measuring.Measured.{Measured}
+use Rattle.restore_list.specs.declared.module_measuring.Measured.the-variants.{Within, Beyond}
+
+-- the changes of the records passed are within reach, and have so many bytes and lines
+pub record Sums (t : List ℕ) (vs : List ℤ) (selection : List ℕ) (ws : List ℤ) (number place first bytes lines : ℕ) : Type 0 where
+  pub walk : Walk t number place first
+  pub sounds : sound t ≡ true
+  pub done : List Change
+  pub passed : ChangeWalk (wishOf t vs selection ws) number place first done
+  pub reach : allReachable t done ≡ true
+  pub bytes-are : bytes ≡ length (listing t done)
+  pub lines-are : lines ≡ length done
+  pub short : bytes ≤ 4224 * number
+  pub few : lines ≤ 33 * number
+
+pub sums-start : (t : List ℕ) (vs : List ℤ) (selection : List ℕ) (ws : List ℤ) → Admitted (wishOf t vs selection ws) → Sums t vs selection ws 0 0 0 0 0
+unfolding allReachable listing
+sums-start t vs selection ws a =
+    let s = walk-none (wishOf t vs selection ws) a in
+    record {
+      walk = s .counted .walk;
+      sounds = a .table;
+      done = [];
+      passed = s;
+      reach = refl;
+      bytes-are = refl;
+      lines-are = refl;
+      short = omega arith;
+      few = omega arith;
+    }
+
+beyond-first : (t : List ℕ) (cs done rest : List Change) → cs ≡ done ++ rest → allReachable t done ≡ false → Beyond ≡ measured t cs
+unfolding measured measuredIf
+beyond-first t cs done rest e h = rw (e, reachable-append t done rest, h) refl
+
+module _ (t : List ℕ) (vs : List ℤ) (selection : List ℕ) (ws : List ℤ) (number place first bytes lines : ℕ)
+    (s : Sums t vs selection ws number place first bytes lines) (l : place < length t) where
+  pub sums-standing : Standing t vs selection ws (moduleHere t number place first)
+  sums-standing = standing t vs selection ws number place first (s .done) (s .passed) (s .sounds) l
+
+  here : List Change
+  here = moduleChanges selection (moduleHere t number place first) vs ws
+
+  module _ (f : Measured) (g : Measures t (moduleChanges selection (moduleHere t number place first) vs ws) f) where
+    pub sums-beyond : f ≡ Beyond → Beyond ≡ measured t (changes (wishOf t vs selection ws))
+    unfolding here
+    sums-beyond e =
+        let r : allReachable t here ≡ false = beyond-told t here (sym e ∙ g .is) in
+        let w = walk-changes (wishOf t vs selection ws) number place first (s .done) (s .passed) l (length (rowsOf (getD t place 0))) refl (bodyLength (getD t place 0)) refl in
+        beyond-first t (changes (wishOf t vs selection ws)) (s .done ++ here) _ (w .split) (reachable-append t (s .done) here ∙ rw (s .reach, r) refl)
+
+    module _ (b c : ℕ) (e : f ≡ Within b c) where
+      told : (allReachable t here ≡ true) × (b ≡ length (listing t here)) × (c ≡ length here)
+      unfolding here
+      told = within-told t here b c (sym e ∙ g .is)
+
+      pub sums-bytes-fit : Fits w64 (bytes + b)
+      sums-bytes-fit = record { fits = omega (arith, s .short, g .few .bytes b c e, walk-few t number place first (s .walk) l) }
+
+      pub sums-lines-fit : Fits w64 (lines + c)
+      sums-lines-fit = record { fits = omega (arith, s .few, g .few .lines b c e, walk-few t number place first (s .walk) l) }
+
+      pub sums-next : (size rows : ℕ) → size ≡ bodyLength (getD t place 0) → rows ≡ length (rowsOf (getD t place 0))
+          → Sums t vs selection ws (number + 1) (place + 1 + size) (first + rows) (bytes + b) (lines + c)
+      unfolding here
+      sums-next size rows k n =
+          let p = walk-changes (wishOf t vs selection ws) number place first (s .done) (s .passed) l rows n size k in
+          let u = told in
+          record {
+            walk = p .counted .walk;
+            sounds = s .sounds;
+            done = s .done ++ here;
+            passed = p;
+            reach = reachable-append t (s .done) here ∙ rw (s .reach, u .0) refl;
+            bytes-are = rw (listing-append t (s .done) here) (omega (arith, s .bytes-are, u .1, length-append (listing t (s .done)) (listing t here)));
+            lines-are = omega (arith, s .lines-are, u .2, length-append (s .done) here);
+            short = omega (arith, s .short, g .few .bytes b c e);
+            few = omega (arith, s .few, g .few .lines b c e);
+          }
+
+pub sums-all : (t : List ℕ) (vs : List ℤ) (selection : List ℕ) (ws : List ℤ) (number place first bytes lines : ℕ)
+    → Sums t vs selection ws number place first bytes lines → length t ≤ place → Within bytes lines ≡ measured t (changes (wishOf t vs selection ws))
+unfolding measured measuredIf
+sums-all t vs selection ws number place first bytes lines s l =
+    rw (walk-all (wishOf t vs selection ws) number place first (s .done) (s .passed) l, s .reach, s .bytes-are, s .lines-are) refl
+
+pub ruleset summing =
+    (sums-start, sums-standing, sums-beyond, sums-bytes-fit, sums-lines-fit, sums-next, sums-all)

@@ -1,0 +1,70 @@
+// Writing the lines of a module's rows, each into what is left of the buffer.
+use catalogue::lent_row::row_of;
+use room::table::Module;
+use spelling::set_line::put_say_line;
+use values::parameter::Parameter;
+ghost use mathlib.Core.Bool.{true};
+ghost use mathlib.Core.Path.{_≡_};
+ghost use Prim.Native.Nat.{_+_, _≤_};
+ghost use lib.ListN.{length};
+ghost use Rattle.catalogue.specs.Catalogue.{known, numbers, rowsOf};
+ghost use Rattle.room.specs.Label.{label};
+ghost use Rattle.wish.specs.Listing.{listing};
+ghost use Rattle.restore_list.specs.Measuring.{rowChanges};
+ghost use mathlib.Core.List.{[], _∷_, _++_};
+ghost use Rattle.text.specs.Written.{Wrote};
+ghost use Rattle.spelling.specs.Say.{say};
+
+// One set line with its 0D, put down at a place: what is left of the buffer is lent on.
+fn write_line(
+    table: &[u8],
+    p: Parameter,
+    size: usize,
+    from: i64,
+    to: i64,
+    list: &mut [u8],
+    at: usize,
+) -> usize
+    requires { ⌜ (p .owner .place + 33 ≤ length (now table)) × (size ≡ length (label (now table) (p .owner))) ⌝ }
+    requires { ⌜ at + length (say (now table) p from to ++ (0x0D ∷ [])) ≤ length (now list) ⌝ }
+    ensures { λ r. ⌜ Wrote (now (list .entry)) at (say (now (table .entry)) p from to ++ (0x0D ∷ [])) r (now (list .exit)) ⌝ }
+{
+    at + put_say_line(table, p, size, from, to, &mut list[at..])
+}
+
+// The lines of a module's rows.
+pub fn write_rows(
+    table: &[u8],
+    rows: &[[i32; 8]; 50],
+    m: Module,
+    size: usize,
+    present: &[i64],
+    wanted: &[i64],
+    list: &mut [u8],
+    start: usize,
+) -> usize
+    requires { ⌜ (now rows ≡ numbers) × (known (m .kind) ≡ true) × (m .place + 33 ≤ length (now table)) × (size ≡ length (label (now table) m)) ⌝ }
+    requires { ⌜ (length (now present) ≡ length (rowsOf (m .kind))) × (length (now wanted) ≡ length (rowsOf (m .kind))) ⌝ }
+    requires { ⌜ start + length (listing (now table) (rowChanges m (now present) (now wanted))) ≤ length (now list) ⌝ }
+    ensures { λ r. ⌜ Wrote (now (list .entry)) start (listing (now (table .entry)) (rowChanges m (now (present .entry)) (now (wanted .entry)))) r (now (list .exit)) ⌝ }
+{
+    let kind = m.kind;
+    let mut at = start;
+    let mut j = 0;
+    while j < present.len() {
+        let number = j;
+        let from = present[number];
+        let to = wanted[number];
+        j += 1;
+        if from == to {
+            continue;
+        }
+        let p = Parameter {
+            owner: m,
+            number,
+            row: row_of(rows, kind, number),
+        };
+        at = write_line(table, p, size, from, to, list, at);
+    }
+    at
+}

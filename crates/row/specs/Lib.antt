@@ -1,2 +1,0 @@
--- A row of the catalogue: the values that it permits.
-pub mod Row

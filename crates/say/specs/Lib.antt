@@ -1,2 +1,0 @@
--- The set line of the restore list.
-pub mod Say

@@ -1,2 +1,0 @@
--- The shape of a line: where its parts stand.
-pub mod Shape

@@ -1,0 +1,14 @@
+-- `name_length`: two quotes, the label and the indices.
+use borrow.Author.Needs.{needs}
+use Rattle.spelling.specs.Name.Measuring.{name-lengths}
+use Rattle.spelling.proofs.name.name_length.Statement.{statement}
+use Rattle.spelling.proofs.name.name_length.Tie as tie
+
+pub name-length-spec : {M : Type 1} → statement M
+name-length-spec =
+    tie.close
+    (tie.spec
+    (λ c. search (name-lengths, needs))
+    (λ c κs. search (name-lengths, needs))
+    (λ c. search (name-lengths, needs))
+    (λ c. search (name-lengths, needs)))

@@ -1,0 +1,16 @@
+-- `put_front`: the verb, the name and `=`, one behind the other.
+use borrow.Author.Needs.{needs}
+use Rattle.spelling.specs.Name.Writing.{front-writing}
+use Rattle.spelling.proofs.name.put_front.Statement.{statement}
+use Rattle.spelling.proofs.name.put_front.Tie as tie
+
+pub put-front-spec : {M : Type 1} → statement M
+put-front-spec =
+    tie.close
+    (tie.spec
+    (λ c. search (front-writing, needs))
+    (λ c κs. search (front-writing, needs))
+    (λ c κs. search (front-writing, needs))
+    (λ c κs. search (front-writing, needs))
+    (λ c. search (front-writing, needs))
+    (λ c. search (front-writing, needs)))

@@ -1,0 +1,14 @@
+-- `put_name`: the label between quotes, and the indices behind it.
+use borrow.Author.Needs.{needs}
+use Rattle.spelling.specs.Name.Writing.{name-writing}
+use Rattle.spelling.proofs.name.put_name.Statement.{statement}
+use Rattle.spelling.proofs.name.put_name.Tie as tie
+
+pub put-name-spec : {M : Type 1} → statement M
+put-name-spec =
+    tie.close
+    (tie.spec
+    (λ c κs. search (name-writing, needs))
+    (λ c κs. search (name-writing, needs))
+    (λ c. search (name-writing, needs))
+    (λ c. search (name-writing, needs)))

@@ -1,0 +1,13 @@
+-- How a line names a parameter.
+pub mod Line
+pub mod Measuring
+pub mod Writing
+use mathlib.Core.List.{List, _∷_, _++_}
+use Prim.Native.Nat.{ℕ}
+use Rattle.room.specs.Label.{label}
+use Rattle.values.specs.declared.parameter.Parameter.{Parameter}
+use Rattle.spelling.specs.IndexText.{indexText}
+
+-- label between quotes and indices, as a line names a parameter
+unfoldable pub name : List ℕ → Parameter → List ℕ
+name t p = 0x22 ∷ (label t (p .owner) ++ (0x22 ∷ indexText (p .row .indices)))

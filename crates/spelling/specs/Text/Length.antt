@@ -1,0 +1,51 @@
+-- How long a value's text is: a rule for each kind.
+use mathlib.Core.Path.{_≡_, refl}
+use Prim.Native.Nat.{ℕ, _/_, _%_, _≤_, _<_, _^_}
+use native.Mathlib.Omega.{arith}
+use lib.IntN.{ℤ, natAbs}
+use lib.ListN.{length, length-append}
+use mir.Syntax.{w64}
+use mir.Val.{SFits}
+use mir.Facts.{toZ-ofZ}
+use Rattle.text.specs.Digits.{digits}
+use Rattle.text.specs.Digits.Value.{digits-short}
+use Rattle.text.specs.Level.{wholeText, levelText}
+use Rattle.text.specs.Level.Laws.{sign-short}
+use Rattle.text.specs.Level.Told.{tenth-short}
+use Rattle.text.specs.Level.Sign.{kept, kept-size-fits}
+use Rattle.text.specs.Switch.{switchText}
+use Rattle.catalogue.specs.declared.row.Kind.{Kind}
+use Rattle.catalogue.specs.declared.row.Kind.the-variants as kind
+use Rattle.spelling.specs.Text.{setText, textOf}
+
+level-short : (v : ℤ) → natAbs v < 2 ^ 64 → length (levelText v) ≤ 23
+unfolding levelText wholeText
+level-short v l =
+    let s = sign-short v in
+    let d = digits-short (natAbs v / 10) 20 (omega arith) (omega arith) in
+    let t = tenth-short (natAbs v % 10) in
+    simp length-append (omega arith)
+
+module _ (k : Kind) (v : ℤ) (r : ℕ) (f : SFits w64 v) where
+  pub level-text-is : k ≡ kind.Level → r ≡ length (levelText (kept v)) → r ≡ length (setText k v)
+  unfolding textOf
+  level-text-is e h = rw e (rw (toZ-ofZ f) at h)
+
+  pub level-text-short : r ≡ length (levelText (kept v)) → r ≤ 23
+  level-text-short h = let s = level-short (kept v) (kept-size-fits v f .fits) in omega arith
+
+  pub number-text-is : (n : ℕ) → k ≡ kind.Number → n ≡ natAbs (kept v) → r ≡ length (digits n) → r ≡ length (setText k v)
+  unfolding textOf
+  number-text-is n e s h = rw e (rw (s, toZ-ofZ f) at h)
+
+  pub number-text-short : (n : ℕ) → n ≡ natAbs (kept v) → r ≡ length (digits n) → r ≤ 23
+  number-text-short n s h =
+      let l : natAbs (kept v) < 2 ^ 64 = kept-size-fits v f .fits in
+      let d = digits-short n 20 (omega arith) (omega arith) in
+      omega arith
+
+pub switch-text-is : (k : Kind) (v : ℤ) → k ≡ kind.Switch → 1 ≡ length (setText k v)
+unfolding textOf switchText
+switch-text-is k v e = rw e refl
+
+pub ruleset text-lengths = (level-text-is, level-text-short, number-text-is, number-text-short, switch-text-is)

@@ -1,0 +1,8 @@
+// How replies and set lines are spelled.
+pub mod acknowledgement;
+pub mod indices;
+pub mod name;
+pub mod reply;
+pub mod set_line;
+pub mod setting;
+pub mod telling;

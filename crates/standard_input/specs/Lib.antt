@@ -1,2 +1,0 @@
--- What the bytes of a read do.
-pub mod Input

@@ -1,2 +1,0 @@
--- The start values: what a program starts with.
-pub mod Starts

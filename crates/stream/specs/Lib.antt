@@ -1,2 +1,0 @@
--- A stream of bytes, served while there is room for a reply.
-pub mod Stream

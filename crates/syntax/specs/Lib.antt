@@ -1,0 +1,4 @@
+-- The parts of a line: its shape, its index part, its value text.
+pub mod IndexPart
+pub mod Shape
+pub mod Value

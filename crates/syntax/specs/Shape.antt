@@ -1,0 +1,63 @@
+-- The shape of a line: verb, perhaps a space, label between quotes, index part and, in a set line, `=` and the value text.
+pub mod Laws
+pub mod Quotes
+pub mod Reading
+use mathlib.Core.Bool.{Bool, cond}
+use mathlib.Core.List.{List, [], _∷_}
+use Prim.Native.Nat.{ℕ, _+_, _-_}
+use lib.Dec.{eqb, ltb}
+use lib.ListN.{length, getD, take, drop}
+use Rattle.text.specs.Cut.{indexOf}
+use Rattle.room.specs.Label.{same}
+use Rattle.syntax.specs.declared.shape.Shape.{Shape}
+use Rattle.syntax.specs.declared.shape.Shape.the-variants.{Malformed, Get, Set}
+
+-- a line has at most 64 bytes
+unfoldable pub lineLimit : ℕ
+lineLimit = 64
+
+-- the line begins with `SA`, with `GA`
+unfoldable pub isSet : List ℕ → Bool
+isSet line = same (take 2 line) (0x53 ∷ 0x41 ∷ [])
+
+unfoldable pub isGet : List ℕ → Bool
+isGet line = same (take 2 line) (0x47 ∷ 0x41 ∷ [])
+
+-- where the opening quote should stand: behind the verb, or behind one space after it
+unfoldable pub opening : List ℕ → ℕ
+opening line = cond (eqb (getD line 2 0) 0x20) 3 2
+
+-- where the first byte b from place `from` on stands; where there is none, the line's length, or `from` where that lies past it
+unfoldable pub firstFrom : ℕ → ℕ → List ℕ → ℕ
+firstFrom b from line = from + indexOf b (drop from line)
+
+-- the next quote after the opening one
+unfoldable pub closing : List ℕ → ℕ
+closing line = firstFrom 0x22 (opening line + 1) line
+
+-- the first `=` after the closing quote
+unfoldable pub equals : List ℕ → ℕ
+equals line = firstFrom 0x3D (closing line + 1) line
+
+-- from the two quotes on: a get line's index part runs to the end, a set line's to the first `=`
+unfoldable pub getShape : List ℕ → Shape
+getShape line = Get (opening line) (closing line)
+
+unfoldable pub setShape : List ℕ → Shape
+setShape line = cond (ltb (equals line) (length line)) (Set (opening line) (closing line) (equals line)) Malformed
+
+-- a quote where it should stand, and another one behind it
+unfoldable pub quoted : List ℕ → Shape → Shape
+quoted line shape =
+    cond (eqb (getD line (opening line) 0) 0x22) (cond (ltb (closing line) (length line)) shape Malformed) Malformed
+
+-- at most 64 bytes; the verb in capitals, SA or GA; at most one space; a quote, and a second one; for SA the `=` after it. Any other line is malformed
+unfoldable pub shape : List ℕ → Shape
+shape line =
+    cond (ltb lineLimit (length line)) Malformed
+    (cond (isSet line) (quoted line (setShape line))
+    (cond (isGet line) (quoted line (getShape line)) Malformed))
+
+-- the bytes from place a up to place e
+unfoldable pub part : List ℕ → ℕ → ℕ → List ℕ
+part line a e = take (e - a) (drop a line)

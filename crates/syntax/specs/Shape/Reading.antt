@@ -1,0 +1,155 @@
+-- Rules for the code that finds a line's shape.
+use mathlib.Core.Path.{_≡_, refl, sym, _∙_, ap}
+use mathlib.Core.Bool.{Bool, true, false, cond, _&&_, and-false}
+use mathlib.Core.List.{List, [], _∷_}
+use Prim.Native.Nat.{ℕ, _+_, _-_, _<_, _≤_}
+use native.Mathlib.Omega.{arith}
+use borrow.Author.Tests.{eq-eqb, ne-eqb, leb-true, lt-ltb, le-ltb}
+use lib.Dec.{eqb, leb, ltb}
+use lib.ListN.{length, getD, take, drop, length-drop}
+use lib.Seq.{take-all}
+use mir.Syntax.{w64}
+use mir.Val.{Fits}
+use Rattle.text.specs.Cut.{indexOf}
+use Rattle.room.specs.Label.{same}
+use Rattle.syntax.specs.Shape.{lineLimit, isSet, isGet, opening, firstFrom, closing, equals, getShape, setShape, quoted, shape}
+use Rattle.syntax.specs.Shape.Quotes.{Between, no-place, quotes, quotes-at, quotes-missing}
+use Rattle.syntax.specs.declared.shape.Quotes.{Quotes}
+use Rattle.syntax.specs.declared.shape.Quotes.the-variants.{At, Missing}
+use Rattle.syntax.specs.declared.shape.Shape.{Shape}
+use Rattle.syntax.specs.declared.shape.Shape.the-variants.{Malformed, Get, Set}
+use Rattle.text.specs.Cut.Laws.{index-within}
+use Rattle.syntax.specs.Shape.Laws.{after-verb}
+
+-- ---- a byte sought from a place on
+
+module _ (b from i : ℕ) (line : List ℕ) (l : from ≤ length line) (e : i ≡ indexOf b (take (length line - from) (drop from line))) where
+  sought : i ≡ indexOf b (drop from line)
+  sought =
+      let n : length (drop from line) ≤ length line - from = simp length-drop (omega arith) in
+      rw (take-all (length line - from) (drop from line) n) at e
+
+  sought-within : from + i ≤ length line
+  sought-within = omega (arith, sought, index-within b (drop from line), length-drop from line)
+
+  pub sought-fits : length line < 18446744073709551616 → Fits w64 (from + i)
+  sought-fits m = let w = sought-within in record { fits = omega arith }
+
+  pub found-from : from + i ≡ firstFrom b from line
+  unfolding firstFrom
+  found-from = ap (λ n. from + n) sought
+
+pub ruleset from-rules = (sought-fits, found-from)
+
+-- ---- the opening quote
+
+pub opens-late : (line : List ℕ) → getD line 2 0 ≡ 0x20 → 3 ≡ opening line
+unfolding opening
+opens-late line e = rw (eq-eqb (getD line 2 0) 0x20 e)
+
+pub opens-early : (line : List ℕ) → (getD line 2 0 ≡ 0x20 → ⊥) → 2 ≡ opening line
+unfolding opening
+opens-early line e = rw (ne-eqb (getD line 2 0) 0x20 e)
+
+pub ruleset opening-rules = (opens-late, opens-early)
+
+-- ---- the verb
+
+pub too-long : (line : List ℕ) (limit : ℕ) → limit < length line → leb 64 limit ≡ true → Malformed ≡ shape line
+unfolding shape lineLimit
+too-long line limit l h = let k = leb-true 64 limit h in rw (lt-ltb 64 (length line) (omega arith))
+
+-- a line is malformed at any length, where it is so at a right one
+at-any-length : (line : List ℕ) (s : Shape) → s ≡ Malformed → Malformed ≡ cond (ltb lineLimit (length line)) Malformed s
+at-any-length line s e = go (ltb lineLimit (length line))
+  where
+    go : (a : Bool) → Malformed ≡ cond a Malformed s
+    go true = refl
+    go false = sym e
+
+pub too-short : (line : List ℕ) → length line ≤ 2 → Malformed ≡ shape line
+unfolding shape
+too-short line h = at-any-length line _ (go (isSet line) (isGet line))
+  where
+    none : (s : Shape) → quoted line s ≡ Malformed
+    none s = quotes-missing line s (sym (no-place line (opening line) refl (omega (arith, after-verb line))))
+
+    go : (a b : Bool) → cond a (quoted line (setShape line)) (cond b (quoted line (getShape line)) Malformed) ≡ Malformed
+    go true b = none (setShape line)
+    go false true = none (getShape line)
+    go false false = refl
+
+-- the first two bytes
+verb-is : (line : List ℕ) (a b : ℕ) → 2 < length line → same (take 2 line) (a ∷ b ∷ []) ≡ (eqb (getD line 0 0) a && (eqb (getD line 1 0) b && true))
+unfolding same
+verb-is [] a b h = absurd (omega arith)
+verb-is (x ∷ []) a b h = absurd (omega arith)
+verb-is (x ∷ y ∷ s) a b h = refl
+
+module _ (line : List ℕ) (long : 2 < length line) where
+  no-verb : isSet line ≡ false → isGet line ≡ false → Malformed ≡ shape line
+  unfolding shape
+  no-verb e f = at-any-length line _ (rw (e, f))
+
+  pub other-letter : (getD line 1 0 ≡ 0x41 → ⊥) → Malformed ≡ shape line
+  unfolding isSet isGet
+  other-letter n =
+      let e = ne-eqb (getD line 1 0) 0x41 n in
+      no-verb (verb-is line 0x53 0x41 long ∙ rw e (and-false (eqb (getD line 0 0) 0x53))) (verb-is line 0x47 0x41 long ∙ rw e (and-false (eqb (getD line 0 0) 0x47)))
+
+  pub other-verb : (getD line 0 0 ≡ 0x53 → ⊥) → (getD line 0 0 ≡ 0x47 → ⊥) → Malformed ≡ shape line
+  unfolding isSet isGet
+  other-verb n m =
+      no-verb (verb-is line 0x53 0x41 long ∙ rw (ne-eqb (getD line 0 0) 0x53 n)) (verb-is line 0x47 0x41 long ∙ rw (ne-eqb (getD line 0 0) 0x47 m))
+
+  module _ (short : length line ≤ 64) (e : getD line 1 0 ≡ 0x41) (r : Shape) where
+    verb : (a b : Bool) → isSet line ≡ a → isGet line ≡ b
+        → shape line ≡ cond a (quoted line (setShape line)) (cond b (quoted line (getShape line)) Malformed)
+    unfolding shape lineLimit
+    verb a b e f = rw (le-ltb 64 (length line) short, e, f)
+
+    pub verb-set : getD line 0 0 ≡ 0x53 → r ≡ quoted line (setShape line) → r ≡ shape line
+    unfolding isSet
+    verb-set f h = h ∙ sym (verb true (isGet line) (verb-is line 0x53 0x41 long ∙ rw (f, e)) refl)
+
+    pub verb-get : (getD line 0 0 ≡ 0x53 → ⊥) → getD line 0 0 ≡ 0x47 → r ≡ quoted line (getShape line) → r ≡ shape line
+    unfolding isSet isGet
+    verb-get n f h = h ∙ sym (verb false true (verb-is line 0x53 0x41 long ∙ rw (ne-eqb (getD line 0 0) 0x53 n)) (verb-is line 0x47 0x41 long ∙ rw (f, e)))
+
+pub ruleset shape-rules = (too-long, too-short, other-letter, other-verb, verb-set, verb-get)
+
+-- ---- what a get line's shape tells
+
+never-get {ℓ} : {A : Type ℓ} (o c : ℕ) → Malformed ≡ Get o c → A
+never-get o c h = absurd (let z : _≡_ {A = ℕ} 0 1 = cc in omega arith)
+
+get-told : (line : List ℕ) (o c : ℕ) (q : Quotes) → quotes line ≡ q → quoted line (getShape line) ≡ Get o c → Between line o c
+unfolding getShape
+get-told line o c (At a b) e h =
+    let w = quotes-at line a b e in
+    let g : Get (opening line) (closing line) ≡ Get o c = sym (w .shapes (getShape line)) ∙ h in
+    let p : a ≡ o = sym (w .opened) ∙ (cc) in
+    let q : b ≡ c = sym (w .closed) ∙ (cc) in
+    rw (p, q) at w
+get-told line o c Missing e h = never-get o c (sym (quotes-missing line (getShape line) e) ∙ h)
+
+set-gets {ℓ} : {A : Type ℓ} (line : List ℕ) (o c : ℕ) → quoted line (setShape line) ≡ Get o c → A
+unfolding quoted setShape
+set-gets {A = A} line o c h =
+    go (eqb (getD line (opening line) 0) 0x22) (ltb (closing line) (length line)) (ltb (equals line) (length line)) h
+  where
+    go : (s t u : Bool) → cond s (cond t (cond u (Set (opening line) (closing line) (equals line)) Malformed) Malformed) Malformed ≡ Get o c → A
+    go true true true h = absurd (let z : _≡_ {A = ℕ} 0 1 = cc in omega arith)
+    go true true false h = never-get o c h
+    go true false u h = never-get o c h
+    go false t u h = never-get o c h
+
+pub get-ordered : (line : List ℕ) (o c : ℕ) → shape line ≡ Get o c → Between line o c
+unfolding shape
+get-ordered line o c h = go (ltb lineLimit (length line)) (isSet line) (isGet line) h
+  where
+    go : (a b d : Bool) → cond a Malformed (cond b (quoted line (setShape line)) (cond d (quoted line (getShape line)) Malformed)) ≡ Get o c → Between line o c
+    go true b d h = never-get o c h
+    go false true d h = set-gets line o c h
+    go false false true h = get-told line o c (quotes line) refl h
+    go false false false h = never-get o c h

@@ -1,0 +1,206 @@
+-- Rules for the code that reads a value text; a signed local is read back from its bits.
+use mathlib.Core.Path.{_≡_, refl, sym, _∙_, ap}
+use mathlib.Core.Bool.{Bool, true, false, cond, _&&_}
+use mathlib.Core.List.{List}
+use Prim.Native.Nat.{ℕ, zero, suc, _+_, _%_, _^_, _<_, _≤_}
+use native.Mathlib.Nat.{pow-le-pow-right}
+use native.Mathlib.Omega.{arith}
+use borrow.Author.Tests.{lt-ltb, not-true, not-false}
+use lib.Dec.{eqb}
+use lib.IntN.{ℤ, pos, negsuc, natAbs, _-ℤ_}
+use lib.Signed.{leZ, mag}
+use mir.Facts.{toZ-ofZ, toZ-pos}
+use mir.Syntax.{w64}
+use mir.Val.{SFits, toZ}
+use Rattle.text.specs.Level.{readLevel}
+use Rattle.text.specs.Level.Laws.{level-below}
+use Rattle.text.specs.Number.{readNumber}
+use Rattle.text.specs.Number.Laws.{number-below}
+use Rattle.text.specs.Switch.{readSwitch}
+use Rattle.text.specs.declared.level.Level.{Level}
+use Rattle.text.specs.declared.level.Level.the-variants as level
+use Rattle.text.specs.declared.number.Number.{Number}
+use Rattle.text.specs.declared.number.Number.the-variants as number
+use Rattle.text.specs.declared.switch.Switch.{Switch}
+use Rattle.text.specs.declared.switch.Switch.the-variants as switch
+use Rattle.text.specs.Every.{both-left, both-right}
+use Rattle.catalogue.specs.Row.{permitted}
+use Rattle.catalogue.specs.Row.Laws.{RowFits, bits, between, value-bits}
+use Rattle.catalogue.specs.declared.row.Row.{Row}
+use Rattle.catalogue.specs.declared.row.Kind.{Kind}
+use Rattle.catalogue.specs.declared.row.Kind.the-variants as kind
+use Rattle.syntax.specs.Value.{ofLevel, ofNumber, ofSwitch, readKind, onlyPermitted, readValue}
+use Rattle.syntax.specs.Value.Laws.{value-back, wrong-value}
+use Rattle.syntax.specs.declared.value_text.ValueText.{ValueText}
+use Rattle.syntax.specs.declared.value_text.ValueText.the-variants.{Value, Wrong}
+
+-- ---- levels and numbers
+
+small-fits : (v : ℤ) → natAbs v < 1000 → SFits w64 v
+small-fits (pos n) h = record { sfits = omega arith }
+small-fits (negsuc n) h = record { sfits = omega arith }
+
+level-fits : (s : List ℕ) (v : ℤ) → readLevel s ≡ level.Tenths v → SFits w64 v
+level-fits s v e = small-fits v (level-below s v e)
+
+pub level-said : (s : List ℕ) (l : Level) (v : ℤ) → l ≡ readLevel s → l ≡ level.Tenths v → Value (bits v) ≡ ofLevel (readLevel s)
+unfolding ofLevel
+level-said s l v e h = let f = sym e ∙ h in rw (f, toZ-ofZ (level-fits s v f))
+
+pub level-wrong : (s : List ℕ) (l : Level) → l ≡ readLevel s → l ≡ level.Wrong → Wrong ≡ ofLevel (readLevel s)
+unfolding ofLevel
+level-wrong s l e h = rw (sym e ∙ h)
+
+pub ruleset level-rules = (level-said, level-wrong)
+
+pub number-fits : (width : ℕ) (s : List ℕ) (m : Number) (n : ℕ) → m ≡ readNumber width s → m ≡ number.Value n → width ≤ 18 → SFits w64 (pos n)
+number-fits width s m n e h l =
+    let b = number-below width s n (sym e ∙ h) in
+    let w : 10 ^ width ≤ 10 ^ 18 = pow-le-pow-right (omega arith) l in
+    record { sfits = omega arith }
+
+pub number-said : (s : List ℕ) (m : Number) (n : ℕ) → m ≡ readNumber 5 s → m ≡ number.Value n → Value (toZ w64 n) ≡ ofNumber (readNumber 5 s)
+unfolding ofNumber
+number-said s m n e h =
+    let l : n < 10 ^ 5 = number-below 5 s n (sym e ∙ h) in
+    let small : n < 2 ^ 63 = omega arith in
+    rw (sym e ∙ h, toZ-pos w64 small)
+
+pub number-wrong : (s : List ℕ) (m : Number) → m ≡ readNumber 5 s → m ≡ number.Wrong → Wrong ≡ ofNumber (readNumber 5 s)
+unfolding ofNumber
+number-wrong s m e h = rw (sym e ∙ h)
+
+pub ruleset number-rules = (number-fits, number-said, number-wrong)
+
+-- ---- switches
+
+turn-near : (x : ℤ) → mag (pos 1 -ℤ x) ≤ mag x + 2
+turn-near (pos zero) = omega arith
+turn-near (pos (suc zero)) = omega arith
+turn-near (pos (suc (suc n))) = rw (lt-ltb 1 (suc (suc n)) (omega arith)) (omega arith)
+turn-near (negsuc n) = omega arith
+
+turn-fits : (x : ℤ) → mag x < 2 ^ 62 → SFits w64 (pos 1 -ℤ x)
+turn-fits x h = record { sfits = omega (arith, turn-near x, h) }
+
+module _ (present : ℤ) (near : mag present < 2 ^ 62) where
+  pub turned-fits : SFits w64 (pos 1 -ℤ bits present)
+  turned-fits = rw (value-bits present near) (turn-fits present near)
+
+  module _ (s : List ℕ) (w : Switch) (e : w ≡ readSwitch s) where
+    pub switch-on : w ≡ switch.On → Value (pos 1) ≡ ofSwitch present (readSwitch s)
+    unfolding ofSwitch
+    switch-on h = rw (sym e ∙ h)
+
+    pub switch-off : w ≡ switch.Off → Value (pos 0) ≡ ofSwitch present (readSwitch s)
+    unfolding ofSwitch
+    switch-off h = rw (sym e ∙ h)
+
+    pub switch-turned : w ≡ switch.Turn → Value (bits (pos 1 -ℤ bits present)) ≡ ofSwitch present (readSwitch s)
+    unfolding ofSwitch
+    switch-turned h = rw (sym e ∙ h, toZ-ofZ turned-fits, value-bits present near)
+
+    pub switch-wrong : w ≡ switch.Wrong → Wrong ≡ ofSwitch present (readSwitch s)
+    unfolding ofSwitch
+    switch-wrong h = rw (sym e ∙ h)
+
+pub ruleset switch-rules = (turned-fits, switch-on, switch-off, switch-turned, switch-wrong)
+
+-- ---- the kind
+
+module _ (k : Kind) (present : ℤ) (s : List ℕ) (r : ValueText) where
+  pub kind-level : k ≡ kind.Level → r ≡ ofLevel (readLevel s) → r ≡ readKind k present s
+  unfolding readKind
+  kind-level e h = h ∙ rw e
+
+  pub kind-switch : mag present < 2 ^ 62 → k ≡ kind.Switch → r ≡ ofSwitch (bits present) (readSwitch s) → r ≡ readKind k present s
+  unfolding readKind
+  kind-switch near e h = h ∙ rw (e, value-bits present near)
+
+  pub kind-number : k ≡ kind.Number → r ≡ ofNumber (readNumber 5 s) → r ≡ readKind k present s
+  unfolding readKind
+  kind-number e h = h ∙ rw e
+
+pub still-near : (present : ℤ) → mag present < 2 ^ 62 → mag (bits present) < 2 ^ 62
+still-near present near = rw (value-bits present near) near
+
+pub ruleset kind-rules = (still-near, kind-level, kind-switch, kind-number)
+
+-- ---- the row
+
+-- a permitted value is as near to 0 as its row's bounds
+pub permitted-near : (r : Row) (v : ℤ) → RowFits r → permitted r v ≡ true → mag v < 2 ^ 62
+unfolding permitted
+permitted-near r v fit h =
+    let on-step = eqb (natAbs (v -ℤ r .low) % r .step) 0 in
+    let inside = both-left (leZ (r .low) v && leZ v (r .high)) on-step h in
+    let over = both-left (leZ (r .low) v) (leZ v (r .high)) inside in
+    let under = both-right (leZ (r .low) v) (leZ v (r .high)) inside in
+    between (2 ^ 62) (r .low) v (r .high) (fit .low-fits) (fit .high-fits) over under
+
+pub permitted-bits : (r : Row) (v : ℤ) → RowFits r → permitted r v ≡ true → bits v ≡ v
+permitted-bits r v fit h = value-bits v (permitted-near r v fit h)
+
+-- what a kind's text says fits
+level-within : (s : List ℕ) (v : ℤ) (l : Level) → readLevel s ≡ l → ofLevel l ≡ Value v → SFits w64 v
+unfolding ofLevel
+level-within s v (level.Tenths x) e h = let q : x ≡ v = cc in rw q at (level-fits s x e)
+level-within s v level.Wrong e h = wrong-value v h
+
+number-within : (s : List ℕ) (v : ℤ) (m : Number) → readNumber 5 s ≡ m → ofNumber m ≡ Value v → SFits w64 v
+unfolding ofNumber
+number-within s v (number.Value n) e h = let q : pos n ≡ v = cc in rw q at (number-fits 5 s (number.Value n) n (sym e) refl (omega arith))
+number-within s v number.Wrong e h = wrong-value v h
+
+switch-within : (present v : ℤ) (w : Switch) → mag present < 2 ^ 62 → ofSwitch present w ≡ Value v → SFits w64 v
+unfolding ofSwitch
+switch-within present v switch.On near h = let q : pos 1 ≡ v = cc in rw (← q) (record { sfits = omega arith })
+switch-within present v switch.Off near h = let q : pos 0 ≡ v = cc in rw (← q) (record { sfits = omega arith })
+switch-within present v switch.Turn near h = let q : pos 1 -ℤ present ≡ v = cc in rw (← q) (turn-fits present near)
+switch-within present v switch.Wrong near h = wrong-value v h
+
+kind-within : (k : Kind) (present v : ℤ) (s : List ℕ) → mag present < 2 ^ 62 → readKind k present s ≡ Value v → SFits w64 v
+unfolding readKind
+kind-within kind.Level present v s near h = level-within s v (readLevel s) refl h
+kind-within kind.Switch present v s near h = switch-within present v (readSwitch s) near h
+kind-within kind.Number present v s near h = number-within s v (readNumber 5 s) refl h
+
+module _ (r : Row) (present : ℤ) (s : List ℕ) where
+  pub not-settable : r .settable ≡ false → Wrong ≡ readValue r present s
+  unfolding readValue
+  not-settable e = rw e
+
+  module _ (fit : RowFits r) (now : permitted r present ≡ true) where
+    pub present-near : mag (bits present) < 2 ^ 62
+    present-near = still-near present (permitted-near r present fit now)
+
+    module _ (set : r .settable ≡ true) (w : ValueText) (e : w ≡ readKind (r .kind) (bits present) s) where
+      said : w ≡ readKind (r .kind) present s
+      said = rw (permitted-bits r present fit now) at e
+
+      pub form-wrong : w ≡ Wrong → Wrong ≡ readValue r present s
+      unfolding readValue onlyPermitted
+      form-wrong h = rw (set, ← said, h)
+
+      module _ (v : ℤ) (h : w ≡ Value v) (t : Bool) (f : t ≡ permitted r (bits v)) where
+        plain : bits v ≡ v
+        plain = toZ-ofZ (kind-within (r .kind) present v s (permitted-near r present fit now) (sym said ∙ h))
+
+        says : readKind (r .kind) present s ≡ Value v
+        says = sym said ∙ h
+
+        pub value-put : t ≡ true → Value (bits v) ≡ readValue r present s
+        value-put y =
+            let g : permitted r v ≡ true = rw plain at (sym f ∙ y) in
+            rw plain (sym (value-back r present s v (record { settable = set; says = says; permits = g })))
+
+        pub value-refused : t ≡ false → Wrong ≡ readValue r present s
+        unfolding readValue onlyPermitted
+        value-refused y =
+            let g : permitted r v ≡ false = rw plain at (sym f ∙ y) in
+            sym
+            (ap (λ b. cond b (onlyPermitted r (readKind (r .kind) present s)) Wrong) set
+            ∙ ap (onlyPermitted r) says
+            ∙ ap (λ b. cond b (Value v) Wrong) g)
+
+pub ruleset value-rules = (not-true, not-false, not-settable, present-near, form-wrong, value-put, value-refused)

@@ -1,0 +1,4 @@
+// The parts of a line: its shape, its index part, its value text.
+pub mod index_part;
+pub mod shape;
+pub mod value_text;

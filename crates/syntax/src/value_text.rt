@@ -1,0 +1,88 @@
+// The value text of a set line.
+use catalogue::permit::permits;
+use catalogue::row::Kind;
+use catalogue::row::Row;
+use text::level::Level;
+use text::level::read_level;
+use text::number::Number;
+use text::number::read_number;
+use text::switch::Switch;
+use text::switch::read_switch;
+ghost use mathlib.Core.Bool.{true};
+ghost use mathlib.Core.Path.{_≡_};
+ghost use Prim.Native.Nat.{_<_, _^_};
+ghost use lib.Signed.{mag};
+ghost use Rattle.text.specs.Level.{readLevel};
+ghost use Rattle.text.specs.Number.{readNumber};
+ghost use Rattle.text.specs.Switch.{readSwitch};
+ghost use Rattle.catalogue.specs.Row.{permitted};
+ghost use Rattle.catalogue.specs.Row.Laws.{RowFits};
+ghost use Rattle.syntax.specs.Value.{ofLevel, ofNumber, ofSwitch, readKind, readValue};
+
+pub enum ValueText {
+    Value(i64),
+    Wrong,
+}
+
+fn level_value(text: &[u8]) -> ValueText
+    ensures { λ r. ⌜ r ≡ ofLevel (readLevel (now (text .entry))) ⌝ }
+{
+    match read_level(text) {
+        Level::Tenths(v) => ValueText::Value(v),
+        Level::Wrong => ValueText::Wrong,
+    }
+}
+
+fn number_value(text: &[u8]) -> ValueText
+    ensures { λ r. ⌜ r ≡ ofNumber (readNumber 5 (now (text .entry))) ⌝ }
+{
+    match read_number(text, 5) {
+        Number::Value(n) => ValueText::Value(n as i64),
+        Number::Wrong => ValueText::Wrong,
+    }
+}
+
+// `T` turns the present value over.
+fn switch_value(present: i64, text: &[u8]) -> ValueText
+    requires { ⌜ mag present < 2 ^ 62 ⌝ }
+    ensures { λ r. ⌜ r ≡ ofSwitch present (readSwitch (now (text .entry))) ⌝ }
+{
+    let turned = 1 - present;
+    match read_switch(text) {
+        Switch::On => ValueText::Value(1),
+        Switch::Off => ValueText::Value(0),
+        Switch::Turn => ValueText::Value(turned),
+        Switch::Wrong => ValueText::Wrong,
+    }
+}
+
+// The value that a text says in its kind's form.
+fn kind_value(kind: Kind, present: i64, text: &[u8]) -> ValueText
+    requires { ⌜ mag present < 2 ^ 62 ⌝ }
+    ensures { λ r. ⌜ r ≡ readKind kind present (now (text .entry)) ⌝ }
+{
+    match kind {
+        Kind::Level => level_value(text),
+        Kind::Switch => switch_value(present, text),
+        Kind::Number => number_value(text),
+    }
+}
+
+// The value that a set line puts: the row may be set, the text has its kind's form, and the value is permitted.
+pub fn read_value(row: Row, present: i64, text: &[u8]) -> ValueText
+    requires { ⌜ RowFits row ⌝ }
+    requires { ⌜ permitted row present ≡ true ⌝ }
+    ensures { λ r. ⌜ r ≡ readValue row present (now (text .entry)) ⌝ }
+{
+    let settable = row.settable;
+    if !settable {
+        return ValueText::Wrong;
+    }
+    let kind = row.kind;
+    if let ValueText::Value(v) = kind_value(kind, present, text) {
+        if permits(row, v) {
+            return ValueText::Value(v);
+        }
+    }
+    ValueText::Wrong
+}

@@ -1,0 +1,20 @@
+-- `read_point`: each return is a rule of the state behind the whole part.
+use borrow.Author.Needs.{needs}
+use Rattle.text.specs.Level.Reading.{point-rules}
+use Rattle.text.proofs.level.read_point.Statement.{statement}
+use Rattle.text.proofs.level.read_point.Tie as tie
+
+pub read-point-spec : {M : Type 1} → statement M
+read-point-spec =
+    tie.close
+    (tie.spec
+    (λ c. search needs)
+    (λ c κs. search needs)
+    (λ c. search (point-rules, needs))
+    (λ c. search needs)
+    (λ c. search needs)
+    (λ c. search needs)
+    (λ c. search needs)
+    (λ c κs. search needs)
+    (λ c. search (point-rules, needs))
+    (λ c. search (point-rules, needs)))

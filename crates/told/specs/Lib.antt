@@ -1,2 +1,0 @@
--- What the calls for C tell.
-pub mod Told

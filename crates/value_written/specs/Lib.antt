@@ -1,2 +1,0 @@
--- A value's text.
-pub mod Text

@@ -1,3 +1,0 @@
-// A value's text, by its kind: in a set line, and in a reply.
-pub mod setting;
-pub mod telling;

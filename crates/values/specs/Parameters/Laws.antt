@@ -1,0 +1,61 @@
+-- Laws of the parameter lists: the parameters of a module by their numbers, and lists one after the other.
+use mathlib.Core.Path.{_≡_, refl, ap, _∙_}
+use mathlib.Core.List.{List, [], _∷_, _++_}
+use Prim.Native.Nat.{ℕ, zero, suc, _+_, _<_}
+use native.Mathlib.Nat.{add-zero, zero-add, le-of-suc-le-suc, not-suc-le-zero}
+use native.Mathlib.Numerals.{add-one}
+use native.Mathlib.Omega.{arith}
+use lib.ListN.{length, getD, drop}
+use lib.Seq.{drop-cons}
+use Rattle.catalogue.specs.Catalogue.{rowsOf}
+use Rattle.catalogue.specs.Catalogue.Rules.{noRow, rowOf}
+use Rattle.values.specs.Parameters.{numbered, parameterAt, parametersOf}
+use Rattle.catalogue.specs.declared.row.Row.{Row}
+use Rattle.room.specs.declared.table.Module.{Module}
+use Rattle.values.specs.declared.parameter.Parameter.{Parameter}
+use Rattle.values.specs.declared.parameter.ParameterFound.the-variants.{At}
+
+-- parameter j of a module
+abbrev pub parameterOf : Module → ℕ → Parameter
+parameterOf m j = record { owner = m; number = j; row = rowOf (m .kind) j }
+
+length-numbered : (m : Module) (n : ℕ) (rs : List Row) → length (numbered m n rs) ≡ length rs
+unfolding numbered
+length-numbered m n [] = refl
+length-numbered m n (r ∷ rs) = ap suc (length-numbered m (n + 1) rs)
+
+pub length-parametersOf : (m : Module) → length (parametersOf m) ≡ length (rowsOf (m .kind))
+unfolding parametersOf
+length-parametersOf m = length-numbered m 0 (rowsOf (m .kind))
+
+numbered-at : (m : Module) (n : ℕ) (rs : List Row) (d : Parameter) (j : ℕ) → j < length rs → getD (numbered m n rs) j d ≡ record { owner = m; number = n + j; row = getD rs j noRow }
+unfolding numbered
+numbered-at m n [] d j h = absurd (not-suc-le-zero h)
+numbered-at m n (r ∷ rs) d zero h = rw add-zero
+numbered-at m n (r ∷ rs) d (suc j) h =
+    let e : n + 1 + j ≡ n + suc j = omega arith in
+    numbered-at m (n + 1) rs d j (le-of-suc-le-suc h) ∙ rw e
+
+pub parametersOf-at : (m : Module) (d : Parameter) (j : ℕ) → j < length (rowsOf (m .kind)) → getD (parametersOf m) j d ≡ parameterOf m j
+unfolding parametersOf rowOf
+parametersOf-at m d j h = numbered-at m 0 (rowsOf (m .kind)) d j h ∙ rw zero-add
+
+pub parametersOf-cons : (m : Module) (j : ℕ) → j < length (rowsOf (m .kind)) → drop j (parametersOf m) ≡ parameterOf m j ∷ drop (j + 1) (parametersOf m)
+parametersOf-cons m j h =
+    let l : j < length (parametersOf m) = omega (arith, length-parametersOf m) in
+    drop-cons (parametersOf m) j (parameterOf m j) l ∙ rw (add-one, parametersOf-at m (parameterOf m j) j h)
+
+-- ---- a parameter by its place in two lists, one after the other
+
+pub parameter-early : (ps qs : List Parameter) (d : Parameter) (k : ℕ) → k < length ps → parameterAt (ps ++ qs) k ≡ At (getD ps k d)
+unfolding parameterAt
+parameter-early [] qs d k h = absurd (not-suc-le-zero h)
+parameter-early (p ∷ ps) qs d zero h = refl
+parameter-early (p ∷ ps) qs d (suc k) h = parameter-early ps qs d k (le-of-suc-le-suc h)
+
+pub parameter-late : (ps qs : List Parameter) (k : ℕ) → parameterAt (ps ++ qs) (length ps + k) ≡ parameterAt qs k
+unfolding parameterAt
+parameter-late [] qs k = rw zero-add
+parameter-late (p ∷ ps) qs k =
+    let e : suc (length ps) + k ≡ suc (length ps + k) = omega arith in
+    rw e (parameter-late ps qs k)

@@ -1,0 +1,87 @@
+-- A module and indices name a parameter: which one, and each by its own row's indices.
+use mathlib.Core.Path.{_≡_, refl, ap, sym, _∙_}
+use mathlib.Core.Bool.{Bool, true, false, cond}
+use mathlib.Core.List.{List, [], _∷_}
+use Prim.Native.Nat.{ℕ, zero, suc, _+_}
+use native.Mathlib.Nat.{zero-add}
+use borrow.Author.Tests.{not-true}
+use Rattle.catalogue.specs.Catalogue.{rowsOf}
+use Rattle.text.specs.Every.{both-left, both-right, every, pairs}
+use Rattle.catalogue.specs.Catalogue.Distinct.{rowsDiffer, type-distinct}
+use Rattle.catalogue.specs.Catalogue.Sized.{sizedRow, type-sized}
+use Rattle.catalogue.specs.Row.{sameIndices}
+use Rattle.catalogue.specs.Row.Comparing.{same-indices, same-indices-refl}
+use Rattle.values.specs.Parameters.{numbered, parametersOf, parameterAt, withIndices, named}
+use Rattle.values.specs.Parameters.Places.{found-same, never-found, at-numbered}
+use Rattle.catalogue.specs.declared.row.Indices.{Indices}
+use Rattle.catalogue.specs.declared.row.Row.{Row}
+use Rattle.room.specs.declared.table.Module.{Module}
+use Rattle.values.specs.declared.parameter.Parameter.{Parameter}
+use Rattle.values.specs.declared.parameter.ParameterFound.the-variants.{At}
+
+-- ---- what a name tells
+
+-- p has the indices i and stands in the list of rows
+record Found (m : Module) (n : ℕ) (rs : List Row) (i : Indices) (p : Parameter) : Type 0 where
+  at : ℕ
+  found : parameterAt (numbered m n rs) at ≡ At p
+  indices : p .row .indices ≡ i
+
+with-indices-told : (m : Module) (n : ℕ) (rs : List Row) (i : Indices) (p : Parameter) → withIndices i (numbered m n rs) ≡ At p → Found m n rs i p
+unfolding numbered withIndices parameterAt
+with-indices-told m n [] i p e = never-found p e
+with-indices-told m n (r ∷ rs) i p e = go (sameIndices (r .indices) i) refl e (with-indices-told m (n + 1) rs i p)
+  where
+    one : Parameter
+    one = record { owner = m; number = n; row = r }
+
+    go : (b : Bool) → sameIndices (r .indices) i ≡ b → cond b (At one) (withIndices i (numbered m (n + 1) rs)) ≡ At p
+        → (withIndices i (numbered m (n + 1) rs) ≡ At p → Found m (n + 1) rs i p) → Found m n (r ∷ rs) i p
+    go true s h below =
+        record { at = 0; found = h; indices = ap (λ q. q .row .indices) (sym (found-same one p h)) ∙ same-indices (r .indices) i s }
+    go false s h below = let f = below h in record { at = suc (f .at); found = f .found; indices = f .indices }
+
+-- the parameter p is the module m's, stands there by its number, and has the indices i
+pub record NamedBy (m : Module) (i : Indices) (p : Parameter) : Type 0 where
+  pub owner : p .owner ≡ m
+  pub own : parameterAt (parametersOf m) (p .number) ≡ At p
+  pub indices : p .row .indices ≡ i
+
+pub named-told : (m : Module) (i : Indices) (p : Parameter) → named m i ≡ At p → NamedBy m i p
+unfolding named parametersOf
+named-told m i p e =
+    let f = with-indices-told m 0 (rowsOf (m .kind)) i p e in
+    let h = at-numbered m 0 (rowsOf (m .kind)) (f .at) p (f .found) in
+    let n : p .number ≡ f .at = h .number ∙ zero-add (f .at) in
+    record { owner = h .owner; own = ap (parameterAt (parametersOf m)) n ∙ f .found; indices = f .indices }
+
+-- ---- each parameter by its own name
+
+pub row-at : (test : Row → Bool) (m : Module) (n : ℕ) (rs : List Row) (j : ℕ) (p : Parameter) → every test rs ≡ true
+    → parameterAt (numbered m n rs) j ≡ At p → test (p .row) ≡ true
+unfolding numbered parameterAt every
+row-at test m n [] j p h e = never-found p e
+row-at test m n (r ∷ rs) zero p h e =
+    ap (λ q. test (q .row)) (sym (found-same (record { owner = m; number = n; row = r }) p e)) ∙ both-left (test r) (every test rs) h
+row-at test m n (r ∷ rs) (suc j) p h e = row-at test m (n + 1) rs j p (both-right (test r) (every test rs) h) e
+
+with-indices-back : (m : Module) (n : ℕ) (rs : List Row) (j : ℕ) (p : Parameter) → pairs rowsDiffer rs ≡ true
+    → parameterAt (numbered m n rs) j ≡ At p → withIndices (p .row .indices) (numbered m n rs) ≡ At p
+unfolding numbered withIndices parameterAt pairs rowsDiffer
+with-indices-back m n [] j p h e = never-found p e
+with-indices-back m n (r ∷ rs) zero p h e =
+    let s : r .indices ≡ p .row .indices = ap (λ q. q .row .indices) (found-same (record { owner = m; number = n; row = r }) p e) in
+    let t : sameIndices (r .indices) (p .row .indices) ≡ true = ap (λ i. sameIndices i (p .row .indices)) s ∙ same-indices-refl (p .row .indices) in
+    rw t e
+with-indices-back m n (r ∷ rs) (suc j) p h e =
+    let d = row-at (rowsDiffer r) m (n + 1) rs j p (both-left (every (rowsDiffer r) rs) (pairs rowsDiffer rs) h) e in
+    rw (not-true (sameIndices (r .indices) (p .row .indices)) d)
+    (with-indices-back m (n + 1) rs j p (both-right (every (rowsDiffer r) rs) (pairs rowsDiffer rs) h) e)
+
+pub named-back : (m : Module) (j : ℕ) (p : Parameter) → parameterAt (parametersOf m) j ≡ At p → named m (p .row .indices) ≡ At p
+unfolding named parametersOf
+named-back m j p e = with-indices-back m 0 (rowsOf (m .kind)) j p (type-distinct (m .kind)) e
+
+pub row-sized : (m : Module) (j : ℕ) (p : Parameter) → parameterAt (parametersOf m) j ≡ At p → sizedRow (p .row) ≡ true
+unfolding parametersOf
+row-sized m j p e = row-at sizedRow m 0 (rowsOf (m .kind)) j p (type-sized (m .kind)) e

@@ -1,0 +1,165 @@
+-- Laws of parameters: each has its module, its number and its place.
+use mathlib.Core.Path.{_≡_, refl, ap, sym, _∙_}
+use mathlib.Core.List.{List, [], _∷_, _++_}
+use Prim.Native.Nat.{ℕ, zero, suc, _+_}
+use native.Mathlib.Nat.{add-zero, zero-add}
+use native.Mathlib.Omega.{arith}
+use lib.ListN.{length, drop}
+use Rattle.catalogue.specs.Catalogue.{rowsOf}
+use Rattle.values.specs.Parameters.{numbered, parametersOf, parametersIn, parameters, place, parameterAt}
+use Rattle.values.specs.Parameters.Laws.{length-parametersOf, parameter-late}
+use Rattle.room.specs.Table.{moduleAt, modules, modulesFrom, recordLimit}
+use Rattle.record.specs.Body.{bodyLength}
+use Rattle.catalogue.specs.declared.row.Row.{Row}
+use Rattle.room.specs.declared.table.Module.{Module}
+use Rattle.room.specs.declared.table.ModuleFound.the-variants as table
+use Rattle.values.specs.declared.parameter.Parameter.{Parameter}
+use Rattle.values.specs.declared.parameter.ParameterFound.the-variants.{At, Nothing}
+
+pub found-same : (p q : Parameter) → At p ≡ At q → p ≡ q
+found-same p q e = cc
+
+pub never-found {ℓ} : {A : Type ℓ} (p : Parameter) → Nothing ≡ At p → A
+never-found p e = absurd (let z : _≡_ {A = ℕ} 0 1 = cc in omega arith)
+
+-- ---- a list of parameters
+
+pub at-left : (ps qs : List Parameter) (k : ℕ) (p : Parameter) → parameterAt ps k ≡ At p → parameterAt (ps ++ qs) k ≡ At p
+unfolding parameterAt
+at-left [] qs k p e = never-found p e
+at-left (q ∷ ps) qs zero p e = e
+at-left (q ∷ ps) qs (suc k) p e = at-left ps qs k p e
+
+-- parameter k of two lists is one of the first, or of the second
+pub data Side (ps qs : List Parameter) (k : ℕ) (p : Parameter) : Type 0 where
+  earlier : parameterAt ps k ≡ At p → Side ps qs k p
+  later : (j : ℕ) → k ≡ length ps + j → parameterAt qs j ≡ At p → Side ps qs k p
+
+pub at-side : (ps qs : List Parameter) (k : ℕ) (p : Parameter) → parameterAt (ps ++ qs) k ≡ At p → Side ps qs k p
+unfolding parameterAt
+at-side [] qs k p e = later k (sym (zero-add k)) e
+at-side (q ∷ ps) qs zero p e = earlier e
+at-side (q ∷ ps) qs (suc k) p e = further (at-side ps qs k p e)
+  where
+    further : Side ps qs k p → Side (q ∷ ps) qs (suc k) p
+    further (earlier h) = earlier h
+    further (later j n h) = later j (omega arith) h
+
+-- ---- a module's parameters
+
+-- p is the module m's, and is number n there
+pub record Numbered (m : Module) (n : ℕ) (p : Parameter) : Type 0 where
+  pub owner : p .owner ≡ m
+  pub number : p .number ≡ n
+
+pub at-numbered : (m : Module) (n : ℕ) (rs : List Row) (j : ℕ) (p : Parameter) → parameterAt (numbered m n rs) j ≡ At p → Numbered m (n + j) p
+unfolding numbered parameterAt
+at-numbered m n [] j p e = never-found p e
+at-numbered m n (r ∷ rs) zero p e =
+    let s = found-same (record { owner = m; number = n; row = r }) p e in
+    record { owner = sym (ap (λ q. q .owner) s); number = sym (ap (λ q. q .number) s) ∙ sym (add-zero n) }
+at-numbered m n (r ∷ rs) (suc j) p e =
+    let h = at-numbered m (n + 1) rs j p e in
+    record { owner = h .owner; number = omega arith }
+
+pub at-own : (m : Module) (j : ℕ) (p : Parameter) → parameterAt (parametersOf m) j ≡ At p → Numbered m j p
+unfolding parametersOf
+at-own m j p e = rw (zero-add j) at (at-numbered m 0 (rowsOf (m .kind)) j p e)
+
+-- ---- the parameters of a table
+
+-- a parameter stands at its place, is one of its module's by its number, and its module is one of the list
+pub record Placed (ms : List Module) (k : ℕ) (p : Parameter) : Type 0 where
+  pub stands : place p ≡ k
+  pub own : parameterAt (parametersOf (p .owner)) (p .number) ≡ At p
+  pub module-number : ℕ
+  pub among : moduleAt ms module-number ≡ table.At (p .owner)
+
+-- a parameter of the first module, and of a later one
+placed-first : (m : Module) (ms : List Module) (k : ℕ) (p : Parameter) → parameterAt (parametersOf m) k ≡ At p → Placed (m ∷ ms) (m .first + k) p
+unfolding place moduleAt
+placed-first m ms k p e =
+    let h = at-own m k p e in
+    record { stands = rw (h .owner, h .number) refl; own = cc; module-number = 0; among = ap table.At (sym (h .owner)) }
+
+placed-later : (m : Module) (ms : List Module) (k : ℕ) (p : Parameter) → Placed ms k p → Placed (m ∷ ms) k p
+unfolding moduleAt
+placed-later m ms k p h = record { stands = h .stands; own = h .own; module-number = suc (h .module-number); among = h .among }
+
+in-records : (left number place first : ℕ) (t : List ℕ) (k : ℕ) (p : Parameter)
+    → parameterAt (parametersIn (modulesFrom left number place first t)) k ≡ At p → Placed (modulesFrom left number place first t) (first + k) p
+unfolding modulesFrom parametersIn parameterAt
+in-records zero number place first t k p e = never-found p e
+in-records (suc left) number place first [] k p e = never-found p e
+in-records (suc left) number place first (kind ∷ t) k p e =
+    go (at-side (parametersOf m) (parametersIn ms) k p e)
+    (λ j. in-records left (number + 1) (place + 1 + bodyLength kind) (first + length (rowsOf kind)) (drop (bodyLength kind) t) j p)
+  where
+    m : Module
+    m = record { number = number; place = place; kind = kind; first = first }
+
+    ms : List Module
+    ms = modulesFrom left (number + 1) (place + 1 + bodyLength kind) (first + length (rowsOf kind)) (drop (bodyLength kind) t)
+
+    go : Side (parametersOf m) (parametersIn ms) k p
+        → ((j : ℕ) → parameterAt (parametersIn ms) j ≡ At p → Placed ms (first + length (rowsOf kind) + j) p) → Placed (m ∷ ms) (first + k) p
+    go (earlier h) below = placed-first m ms k p h
+    go (later j n h) below =
+        let e : first + length (rowsOf kind) + j ≡ first + k = omega (arith, length-parametersOf m) in
+        placed-later m ms (first + k) p (rw e at (below j h))
+
+pub at-place : (t : List ℕ) (k : ℕ) (p : Parameter) → parameterAt (parameters t) k ≡ At p → Placed (modules t) k p
+unfolding parameters modules
+at-place t k p e = rw (zero-add k) at (in-records recordLimit 0 0 0 t k p e)
+
+-- where the parameters of the module m begin
+record Begins (m : Module) (first : ℕ) (ps : List Parameter) : Type 0 where
+  by : ℕ
+  begins : m .first ≡ first + by
+  theirs : (j : ℕ) (p : Parameter) → parameterAt (parametersOf m) j ≡ At p → parameterAt ps (by + j) ≡ At p
+
+no-module {ℓ} : {A : Type ℓ} (m : Module) → table.Nothing ≡ table.At m → A
+no-module m e = absurd (let z : _≡_ {A = ℕ} 0 1 = cc in omega arith)
+
+begins-first : (one m : Module) (ps : List Parameter) → one ≡ m → Begins m (one .first) (parametersOf one ++ ps)
+begins-first one m ps e =
+    record {
+      by = 0;
+      begins = ap (λ n. n .first) (sym e) ∙ sym (add-zero (one .first));
+      theirs = λ j p f. rw (zero-add j) (at-left (parametersOf one) ps j p (ap (λ n. parameterAt (parametersOf n) j) e ∙ f));
+    }
+
+begins-later : (one m : Module) (ps : List Parameter) → Begins m (one .first + length (rowsOf (one .kind))) ps
+    → Begins m (one .first) (parametersOf one ++ ps)
+begins-later one m ps b =
+    record {
+      by = length (parametersOf one) + b .by;
+      begins = omega (arith, b .begins, length-parametersOf one);
+      theirs = λ j p f.
+          let a : length (parametersOf one) + b .by + j ≡ length (parametersOf one) + (b .by + j) = omega arith in
+          rw a (parameter-late (parametersOf one) ps (b .by + j) ∙ b .theirs j p f);
+    }
+
+of-records : (left number place first : ℕ) (t : List ℕ) (n : ℕ) (m : Module) → moduleAt (modulesFrom left number place first t) n ≡ table.At m
+    → Begins m first (parametersIn (modulesFrom left number place first t))
+unfolding modulesFrom parametersIn moduleAt
+of-records zero number place first t n m e = no-module m e
+of-records (suc left) number place first [] n m e = no-module m e
+of-records (suc left) number place first (kind ∷ t) zero m e =
+    let one : Module = record { number = number; place = place; kind = kind; first = first } in
+    let ms = modulesFrom left (number + 1) (place + 1 + bodyLength kind) (first + length (rowsOf kind)) (drop (bodyLength kind) t) in
+    begins-first one m (parametersIn ms) (cc)
+of-records (suc left) number place first (kind ∷ t) (suc n) m e =
+    let one : Module = record { number = number; place = place; kind = kind; first = first } in
+    let ms = modulesFrom left (number + 1) (place + 1 + bodyLength kind) (first + length (rowsOf kind)) (drop (bodyLength kind) t) in
+    begins-later one m (parametersIn ms)
+    (of-records left (number + 1) (place + 1 + bodyLength kind) (first + length (rowsOf kind)) (drop (bodyLength kind) t) n m e)
+
+-- the parameter j of a module of the table is the table's parameter j on from the module's first
+pub at-module : (t : List ℕ) (n : ℕ) (m : Module) (j : ℕ) (p : Parameter) → moduleAt (modules t) n ≡ table.At m
+    → parameterAt (parametersOf m) j ≡ At p → parameterAt (parameters t) (m .first + j) ≡ At p
+unfolding parameters modules
+at-module t n m j p h e =
+    let b = of-records recordLimit 0 0 0 t n m h in
+    let f : m .first ≡ b .by = omega (arith, b .begins) in
+    rw f (b .theirs j p e)

@@ -1,0 +1,100 @@
+// Parameters: the rows of the modules.
+use catalogue::compare::same_indices;
+use catalogue::lent_row::row_of;
+use catalogue::row::Indices;
+use catalogue::row::Row;
+use catalogue::row_count;
+use record::body::body_length;
+use room::table::Module;
+ghost use mathlib.Core.Bool.{true};
+ghost use mathlib.Core.Path.{_≡_};
+ghost use lib.ListN.{length};
+ghost use Rattle.catalogue.specs.Catalogue.{known, numbers};
+ghost use Rattle.values.specs.Parameters.{named, parameterAt, parameters};
+ghost use Rattle.room.specs.Table.{sound};
+
+// A parameter: its module, the number of its row in the module, and the row.
+pub struct Parameter {
+    pub owner: Module,
+    pub number: usize,
+    pub row: Row,
+}
+
+pub enum ParameterFound {
+    At(Parameter),
+    Nothing,
+}
+
+// The parameter of a module whose row has the indices.
+pub fn named(rows: &[[i32; 8]; 50], m: Module, indices: Indices) -> ParameterFound
+    requires { ⌜ (now rows ≡ numbers) × (known (m .kind) ≡ true) ⌝ }
+    ensures { λ r. ⌜ r ≡ named m indices ⌝ }
+{
+    let kind = m.kind;
+    let count = row_count(kind);
+    let mut j = 0;
+    while j < count {
+        let row = row_of(rows, kind, j);
+        let have = row.indices;
+        if same_indices(have, indices) {
+            return ParameterFound::At(Parameter {
+                owner: m,
+                number: j,
+                row,
+            });
+        }
+        j += 1;
+    }
+    ParameterFound::Nothing
+}
+
+// How many parameters a table has.
+pub fn parameter_count(table: &[u8]) -> usize
+    requires { ⌜ sound (now table) ≡ true ⌝ }
+    ensures { λ r. ⌜ r ≡ length (parameters (now (table .entry))) ⌝ }
+{
+    // Only the proof needs the number of the records passed.
+    let mut records: usize = 0;
+    let mut at = 0;
+    let mut passed = 0;
+    while at < table.len() {
+        let kind = table[at];
+        records += 1;
+        at = at + 1 + body_length(kind);
+        passed += row_count(kind);
+    }
+    passed
+}
+
+// Parameter k of a table, counted from 0.
+pub fn parameter_at(table: &[u8], rows: &[[i32; 8]; 50], k: usize) -> ParameterFound
+    requires { ⌜ (sound (now table) ≡ true) × (now rows ≡ numbers) ⌝ }
+    ensures { λ r. ⌜ r ≡ parameterAt (parameters (now (table .entry))) k ⌝ }
+{
+    let mut number: usize = 0;
+    let mut place = 0;
+    let mut first = 0;
+    while place < table.len() {
+        let kind = table[place];
+        let count = row_count(kind);
+        if k - first < count {
+            let within = k - first;
+            let row = row_of(rows, kind, within);
+            let owner = Module {
+                number,
+                place,
+                kind,
+                first,
+            };
+            return ParameterFound::At(Parameter {
+                owner,
+                number: within,
+                row,
+            });
+        }
+        number += 1;
+        place = place + 1 + body_length(kind);
+        first += count;
+    }
+    ParameterFound::Nothing
+}

@@ -1,0 +1,107 @@
+-- The restore list: one set line for each parameter that differs, in value order, and what the restore call answers.
+pub mod Beyond
+pub mod Counted
+pub mod Numbers
+use mathlib.Core.Bool.{Bool, true, false, cond, _&&_}
+use mathlib.Core.Path.{_≡_}
+use mathlib.Core.List.{List, [], _∷_, _++_}
+use Prim.Native.Nat.{ℕ, zero, suc}
+use lib.Dec.{leb}
+use lib.IntN.{ℤ}
+use lib.ListN.{length}
+use lib.Seq.{sets}
+use Rattle.room.specs.Table.{sound}
+use Rattle.room.specs.Label.{label, bearer}
+use Rattle.values.specs.Parameters.{parameters}
+use Rattle.values.specs.Values.{valuesSound, equal}
+use Rattle.values.specs.declared.parameter.Parameter.{Parameter}
+use Rattle.room.specs.declared.label.Bearer.{Bearer}
+use Rattle.room.specs.declared.label.Bearer.the-variants.{Only, NotOne}
+use Rattle.spelling.specs.Say.{say}
+use Rattle.wish.specs.Target.{Wish, selectionRight, wantedRight, target}
+
+-- a wanted change: the parameter, and the values it is to be taken from and to
+pub record Change : Type 0 where
+  pub parameter : Parameter
+  pub present : ℤ
+  pub target : ℤ
+
+-- each parameter that differs, in value order
+unfoldable pub changesOf : List Parameter → (present target : List ℤ) → List Change
+changesOf [] vs xs = []
+changesOf (p ∷ ps) [] xs = []
+changesOf (p ∷ ps) (v ∷ vs) [] = []
+changesOf (p ∷ ps) (v ∷ vs) (x ∷ xs) =
+    cond (equal v x) (changesOf ps vs xs) (record { parameter = p; present = v; target = x } ∷ changesOf ps vs xs)
+
+-- the parameters whose target differs from the present value, in value order
+unfoldable pub changes : Wish → List Change
+changes w = changesOf (parameters (w .table)) (w .present) (target w)
+
+-- one set line, with its 0D
+unfoldable pub lineOf : (table : List ℕ) → Change → List ℕ
+lineOf t c = say t (c .parameter) (c .present) (c .target) ++ 0x0D ∷ []
+
+-- the lines, one behind the other
+unfoldable pub listing : (table : List ℕ) → List Change → List ℕ
+listing t [] = []
+listing t (c ∷ cs) = lineOf t c ++ listing t cs
+
+-- exactly one module bears the label
+unfoldable pub borneOnce : Bearer → Bool
+borneOnce (Only m) = true
+borneOnce NotOne = false
+
+-- a line can set the parameter: its row is not read-only, and no other module bears its module's label
+unfoldable pub reachable : (table : List ℕ) → Parameter → Bool
+reachable t p = p .row .settable && borneOnce (bearer t (label t (p .owner)))
+
+-- no wanted change is beyond reach
+unfoldable pub allReachable : (table : List ℕ) → List Change → Bool
+allReachable t [] = true
+allReachable t (c ∷ cs) = reachable t (c .parameter) && allReachable t cs
+
+-- 5 the selection is wrong, 6 the wanted list is wrong
+unfoldable pub wishNumber : (table selection : List ℕ) → (wanted : List ℤ) → ℕ
+wishNumber t selection ws = cond (selectionRight t selection) (cond (wantedRight t selection ws) 0 6) 5
+
+-- 1 the table is not sound, 2 the values are wrong, then 5 and 6
+unfoldable pub testNumber : Wish → ℕ
+testNumber w = cond (sound (w .table)) (cond (valuesSound (w .table) (w .present)) (wishNumber (w .table) (w .selection) (w .wanted)) 2) 1
+
+-- 1, 2, 5 and 6 do not apply
+pub record Admitted (w : Wish) : Type 0 where
+  pub table : sound (w .table) ≡ true
+  pub present : valuesSound (w .table) (w .present) ≡ true
+  pub selection : selectionRight (w .table) (w .selection) ≡ true
+  pub wanted : wantedRight (w .table) (w .selection) (w .wanted) ≡ true
+
+-- 7 a wanted change is beyond reach, 8 the list is longer than its buffer
+unfoldable pub listNumber : (table : List ℕ) → (room : ℕ) → List Change → ℕ
+listNumber t room cs = cond (allReachable t cs) (cond (leb (length (listing t cs)) room) 0 8) 7
+
+-- the first number, or where it is 0 the other one
+unfoldable pub firstOf : ℕ → ℕ → ℕ
+firstOf zero n = n
+firstOf (suc m) n = suc m
+
+-- the lowest number that applies, 0 where none does: 1, 2, 5 and 6, which are tested before the list, then 7 and 8
+unfoldable pub restoreNumber : Wish → (room : ℕ) → ℕ
+restoreNumber w room = firstOf (testNumber w) (listNumber (w .table) room (changes w))
+
+-- what the call tells, and what it leaves in the list buffer
+pub record Told : Type 0 where
+  pub number : ℕ
+  pub bytes : ℕ
+  pub lines : ℕ
+  pub buffer : List ℕ
+
+-- the list stands first in its buffer, and what is behind it stays; a refusal counts zero and changes nothing
+unfoldable pub tell : (table : List ℕ) → (number : ℕ) → (buffer : List ℕ) → List Change → Told
+tell t zero buffer cs =
+    record { number = 0; bytes = length (listing t cs); lines = length cs; buffer = sets buffer 0 (listing t cs) }
+tell t (suc n) buffer cs = record { number = suc n; bytes = 0; lines = 0; buffer = buffer }
+
+-- the whole call
+unfoldable pub restore : Wish → (buffer : List ℕ) → Told
+restore w buffer = tell (w .table) (restoreNumber w (length buffer)) buffer (changes w)

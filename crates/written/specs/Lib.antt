@@ -1,2 +1,0 @@
--- What a writer leaves in a buffer.
-pub mod Written
