@@ -10,7 +10,7 @@ use Rattle.log.specs.LogPart.{logPart}
 use Rattle.log.specs.Log.Lending.{table-order, line-order}
 use Rattle.log.specs.declared.part.LogPart.{LogPart}
 use Rattle.log.specs.declared.part.LogPart.the-variants.{Table, Line, Nothing}
-use Rattle.capi.specs.Told.{misLent}
+use Rattle.capi.specs.Counts.{misLent}
 
 -- 1 for the table or 0 for the line, the start of the part, and its length
 unfoldable pub partTold : LogPart → List ℕ

@@ -15,7 +15,7 @@ use Rattle.serial_port.specs.Port.{View, view}
 use Rattle.serial_port.specs.Call.{Told, call, step}
 use Rattle.serial_port.specs.Refusal.{callNumber}
 use Rattle.serial_port.specs.declared.port.Port.{Port}
-use Rattle.capi.specs.Told.{misLent}
+use Rattle.capi.specs.Counts.{misLent}
 
 -- the port that 66 bytes say: how many bytes are held, overrun (0 or 1), and the held bytes with whatever follows them
 unfoldable pub portOf : List ℕ → Port

@@ -10,8 +10,8 @@ use Rattle.restore.specs.Demand.{Restores, tells}
 use Rattle.restore.specs.Demand.Laws.{told-by}
 use Rattle.wish.specs.Listing.{Told, restore}
 use Rattle.wish.specs.Target.{Wish}
-use Rattle.restore.specs.declared.demand.Restored.{Restored}
-use Rattle.capi.specs.Told.{misLent}
+use Rattle.restore.specs.declared.Restored.{Restored}
+use Rattle.capi.specs.Counts.{misLent}
 
 -- the number, and what the call leaves in the counts and in the list buffer
 pub record RestoreAnswer : Type 0 where

@@ -1,12 +1,12 @@
 // The library's calls for C: each is thin over the proved library, and none asks anything of its caller.
-pub mod lent;
+pub mod counts;
+pub mod port_bytes;
 pub mod port_call;
-pub mod told;
 
-use crate::lent::port_lent;
+use crate::counts::tell_three;
+use crate::counts::tell_two;
+use crate::port_bytes::port_lent;
 use crate::port_call::call_port;
-use crate::told::tell_three;
-use crate::told::tell_two;
 use log::part::LogPart;
 use log::part::log_part;
 use restore::restore;

@@ -1,13 +1,13 @@
 // The port call over what C lends.
-use crate::lent::port_of;
-use crate::lent::store;
-use crate::told::tell_two;
+use crate::counts::tell_two;
+use crate::port_bytes::port_of;
+use crate::port_bytes::store;
 ghost use mathlib.Core.Bool.{true};
 ghost use mathlib.Core.Path.{_≡_};
 ghost use Rattle.capi.specs.Port.{PortCalled, portLent};
 
 // The port call on a port and on counts that are lent rightly.
-pub fn call_port(
+pub(crate) fn call_port(
     table: &[u8],
     values: &mut [i64],
     port: &mut [u8],

@@ -3,6 +3,7 @@ pub mod Distinct
 pub mod Each
 pub mod Fits
 pub mod Laws
+pub mod Numbers
 pub mod Rules
 pub mod Sized
 use mathlib.Core.Bool.{Bool, true, false, cond, _&&_}

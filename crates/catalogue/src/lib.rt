@@ -1,7 +1,5 @@
 // The catalogue: the rows of the module types, which values each permits, and the one constant table.
-pub mod compare;
 pub mod lent_row;
-pub mod permit;
 pub mod row;
 pub mod table;
 

@@ -10,7 +10,7 @@ use lib.Seq.{take-at}
 use Rattle.text.specs.Cut.{indexOf}
 use Rattle.text.specs.Cut.Lacking.{index-joined}
 use Rattle.text.specs.Digits.{isDigit}
-use Rattle.text.specs.ValueBytes.{valueByte}
+use Rattle.text.specs.Byte.Values.{valueByte}
 use Rattle.room.specs.Label.{label, bearer}
 use Rattle.values.specs.Parameters.{parameters, parameterAt, place}
 use Rattle.catalogue.specs.Row.{permitted}

@@ -117,7 +117,12 @@ fn set_line(
 }
 
 // What a line means in the room of a table and its values.
-pub fn meaning_of(table: &[u8], rows: &[[i32; 8]; 50], values: &[i64], line: &[u8]) -> Meaning
+pub(crate) fn meaning_of(
+    table: &[u8],
+    rows: &[[i32; 8]; 50],
+    values: &[i64],
+    line: &[u8],
+) -> Meaning
     requires { ⌜ (sound (now table) ≡ true) × (now rows ≡ numbers) × (valuesSound (now table) (now values) ≡ true) ⌝ }
     ensures { λ r. ⌜ r ≡ meaning (now (table .entry)) (now (values .entry)) (now (line .entry)) ⌝ }
 {

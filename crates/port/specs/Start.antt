@@ -11,8 +11,8 @@ use Rattle.room.specs.Table.{sound}
 use Rattle.values.specs.Values.{valuesSound}
 use Rattle.values.specs.Starts.{Started, starts}
 use Rattle.values.specs.Starts.Right.{starts-few, starts-right}
-use Rattle.text.specs.Part.{part-counts}
-use Rattle.text.specs.Every.{test-held}
+use Rattle.text.specs.Cut.Part.{part-counts}
+use Rattle.text.specs.Every.Laws.{test-held}
 
 pub ruleset table-rules = (test-held, part-counts)
 

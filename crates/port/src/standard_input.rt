@@ -52,7 +52,7 @@ fn answer_bytes(
 }
 
 // Answers one read, and tells whether there may be more.
-pub fn answer_read(
+pub(crate) fn answer_read(
     table: &[u8],
     rows: &[[i32; 8]; 50],
     values: &mut [i64],

@@ -1,8 +1,11 @@
 -- Demand 3: the restore list fulfils the wish, and no byte sequence that does is shorter.
+pub mod Calling
 pub mod Exactly
 pub mod Laws
+pub mod Lines
 pub mod Played
 pub mod Rules
+pub mod Testing
 use mathlib.Core.Path.{_≡_}
 use mathlib.Core.Bool.{true, false}
 use mathlib.Core.List.{List}
@@ -17,7 +20,7 @@ use Rattle.serial_port.specs.Refusal.{replyLimit}
 use Rattle.serial_port.specs.Play.{play}
 use Rattle.wish.specs.Target.{Wish, target, differing}
 use Rattle.wish.specs.Listing.{Admitted, Told, restore}
-use Rattle.restore.specs.declared.demand.Restored.{Restored}
+use Rattle.restore.specs.declared.Restored.{Restored}
 
 -- played with a reply buffer of `replyRooms n` bytes for call n, it leaves chosen modules as wanted and every other parameter as it was
 pub record Fulfils (w : Wish) (replyRooms : ℕ → ℕ) (bs : List ℕ) : Type 0 where

@@ -12,7 +12,8 @@ use Rattle.text.specs.Digits.{digitsWithin, digits}
 use Rattle.text.specs.Level.{signText, tenthText, shortTenthText, wholeText, levelText}
 use Rattle.text.specs.Switch.{switchText}
 use Rattle.catalogue.specs.Catalogue.{minus, level, switch, number, catalogue, known, rowsIn, rowsOf}
-use Rattle.text.specs.Every.{every, every-append, every-both}
+use Rattle.text.specs.Every.{every}
+use Rattle.text.specs.Every.Laws.{every-append, every-both}
 use Rattle.catalogue.specs.Row.{permitted}
 use Rattle.room.specs.Table.{recordsSound, recordLimit, sound, modulesFrom, modules}
 use Rattle.record.specs.Body.{bodyLength, bodySound}

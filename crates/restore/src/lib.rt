@@ -1,7 +1,4 @@
 // The restore call, with demand 3 in its contract.
-pub mod demand;
-
-use crate::demand::Restored;
 use catalogue::table::all_rows;
 use restore_list::list::write;
 use restore_list::measure::measure;
@@ -16,6 +13,13 @@ ghost use mathlib.Core.Path.{_≡_};
 ghost use Rattle.room.specs.Table.{sound};
 ghost use Rattle.restore.specs.Demand.{Restores};
 ghost use Rattle.wish.specs.Listing.{Admitted, testNumber, wishNumber};
+
+// The bytes and the lines written, and the number of a refusal or 0.
+pub struct Restored {
+    pub bytes: usize,
+    pub lines: usize,
+    pub number: u8,
+}
 
 // What a refused call answers.
 fn refused(number: u8) -> Restored

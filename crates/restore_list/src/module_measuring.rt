@@ -22,7 +22,7 @@ pub enum Measured {
 }
 
 // The changes of a module's rows: beyond reach where a row that changes is read-only.
-pub fn row_lines(
+pub(crate) fn row_lines(
     table: &[u8],
     rows: &[[i32; 8]; 50],
     m: Module,
@@ -62,7 +62,7 @@ pub fn row_lines(
 }
 
 // Whether a module alone bears its label.
-pub fn borne_once(table: &[u8], m: Module, size: usize) -> bool
+pub(crate) fn borne_once(table: &[u8], m: Module, size: usize) -> bool
     requires { ⌜ (sound (now table) ≡ true) × (m .place + 33 ≤ length (now table)) × (size ≡ length (label (now table) m)) ⌝ }
     ensures { λ r. ⌜ r ≡ borneOnce (bearer (now (table .entry)) (label (now (table .entry)) m)) ⌝ }
 {

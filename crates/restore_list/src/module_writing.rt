@@ -33,7 +33,7 @@ fn write_line(
 }
 
 // The lines of a module's rows.
-pub fn write_rows(
+pub(crate) fn write_rows(
     table: &[u8],
     rows: &[[i32; 8]; 50],
     m: Module,

@@ -97,7 +97,7 @@ impl Port {
     }
 
     // A call to which no refusal applies: collects the given bytes up to the first 0D, and answers the line that it finishes.
-    pub fn serve(
+    pub(crate) fn serve(
         self,
         table: &[u8],
         rows: &[[i32; 8]; 50],

@@ -11,7 +11,7 @@ pub const HELD: usize = 64;
 pub const REPLY: usize = 64;
 
 // The lowest number that a call is refused with, 0 where it is served: `room` bytes are there for the reply, and the port claims `claimed`.
-pub fn call_number(
+pub(crate) fn call_number(
     table: &[u8],
     rows: &[[i32; 8]; 50],
     values: &[i64],

@@ -1,7 +1,7 @@
 // The indices of a row as a line writes them, each after `>`: how long they are, and writing them.
 use catalogue::row::Indices;
-use text::length::number_length;
-use text::number_written::put_number;
+use text::number::number_length;
+use text::number::put_number;
 use text::written::put_byte;
 ghost use mathlib.Core.Path.{_≡_};
 ghost use Prim.Native.Nat.{_+_, _≤_};
@@ -18,7 +18,7 @@ fn group_length(n: u64) -> usize
 }
 
 // How long the indices of a row are.
-pub fn index_length(indices: Indices) -> usize
+pub(crate) fn index_length(indices: Indices) -> usize
     ensures { λ r. ⌜ (r ≡ length (indexText indices)) × (r ≤ 42) ⌝ }
 {
     match indices {
@@ -37,7 +37,7 @@ fn put_group(buffer: &mut [u8], at: usize, n: u64) -> usize
 }
 
 // The indices of a row.
-pub fn put_indices(buffer: &mut [u8], at: usize, indices: Indices) -> usize
+pub(crate) fn put_indices(buffer: &mut [u8], at: usize, indices: Indices) -> usize
     requires { ⌜ at + length (indexText indices) ≤ length (now buffer) ⌝ }
     ensures { λ r. ⌜ Wrote (now (buffer .entry)) at (indexText indices) r (now (buffer .exit)) ⌝ }
 {

@@ -4,5 +4,4 @@ pub mod indices;
 pub mod name;
 pub mod reply;
 pub mod set_line;
-pub mod setting;
-pub mod telling;
+pub mod value;

@@ -14,7 +14,7 @@ ghost use Rattle.spelling.specs.Name.{name};
 ghost use Rattle.spelling.specs.Name.Writing.{front, quotedText};
 
 // How long the name of a parameter is, whose label is `size` bytes long.
-pub fn name_length(table: &[u8], p: Parameter, size: usize) -> usize
+pub(crate) fn name_length(table: &[u8], p: Parameter, size: usize) -> usize
     requires { ⌜ size ≡ length (label (now table) (p .owner)) ⌝ }
     ensures { λ r. ⌜ (r ≡ length (name (now (table .entry)) p)) × (r ≤ 76) ⌝ }
 {
@@ -58,7 +58,13 @@ fn put_name(table: &[u8], p: Parameter, size: usize, buffer: &mut [u8], at: usiz
 }
 
 // What stands before the value: the verb, by its first byte, the name and `=`.
-pub fn put_front(table: &[u8], p: Parameter, size: usize, verb: u8, buffer: &mut [u8]) -> usize
+pub(crate) fn put_front(
+    table: &[u8],
+    p: Parameter,
+    size: usize,
+    verb: u8,
+    buffer: &mut [u8],
+) -> usize
     requires { ⌜ (p .owner .place + 33 ≤ length (now table)) × (size ≡ length (label (now table) (p .owner))) ⌝ }
     requires { ⌜ length (front verb (now table) p) ≤ length (now buffer) ⌝ }
     ensures { λ r. ⌜ Wrote (now (buffer .entry)) 0 (front verb (now (table .entry)) p) r (now (buffer .exit)) ⌝ }

@@ -1,6 +1,6 @@
 // The answer to a get line, written at the start of the reply buffer.
 use crate::name::put_front;
-use crate::telling::put_told;
+use crate::value::put_told;
 use room::label::label_length;
 use text::written::put_byte;
 use values::parameter::Parameter;

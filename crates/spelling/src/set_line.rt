@@ -1,8 +1,8 @@
 // The set line that takes a parameter from its present to its wanted value: its length, and writing it at the start of a buffer.
 use crate::name::name_length;
 use crate::name::put_front;
-use crate::setting::put_text;
-use crate::setting::text_length;
+use crate::value::put_text;
+use crate::value::text_length;
 use text::written::put_byte;
 use values::parameter::Parameter;
 ghost use mathlib.Core.List.{[], _∷_, _++_};

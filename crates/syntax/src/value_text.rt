@@ -1,7 +1,7 @@
 // The value text of a set line.
-use catalogue::permit::permits;
 use catalogue::row::Kind;
 use catalogue::row::Row;
+use catalogue::row::permits;
 use text::level::Level;
 use text::level::read_level;
 use text::number::Number;

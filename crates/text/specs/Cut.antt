@@ -1,6 +1,7 @@
 -- Cutting a byte sequence at the first of a given byte.
 pub mod Lacking
 pub mod Laws
+pub mod Part
 use mathlib.Core.Bool.{Bool, cond}
 use mathlib.Core.List.{List, [], _∷_}
 use Prim.Native.Nat.{ℕ, suc}

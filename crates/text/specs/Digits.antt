@@ -1,5 +1,6 @@
 -- Decimal digits of any width: a number's digits, and the number that digits say.
 pub mod Laws
+pub mod Measuring
 pub mod Value
 pub mod Writing
 use mathlib.Core.Bool.{Bool, true, false, _&&_}

@@ -4,9 +4,6 @@ pub mod Cut
 pub mod Digits
 pub mod Every
 pub mod Level
-pub mod Measuring
 pub mod Number
-pub mod Part
 pub mod Switch
-pub mod ValueBytes
 pub mod Written

@@ -1,6 +1,7 @@
 -- Switch texts: `O` on, `F` off, and `T`, which turns the present value over.
 pub mod Examples
 pub mod Laws
+pub mod Writing
 use mathlib.Core.Bool.{cond}
 use mathlib.Core.List.{List, [], _∷_}
 use Prim.Native.Nat.{ℕ}

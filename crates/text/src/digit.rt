@@ -5,7 +5,7 @@ ghost use Prim.Native.Nat.{_-_};
 ghost use Rattle.text.specs.Digits.{isDigit};
 
 // A byte from `0` to `9`.
-pub fn is_digit(b: u8) -> bool
+pub(crate) fn is_digit(b: u8) -> bool
     ensures { λ r. ⌜ r ≡ isDigit b ⌝ }
 {
     if b < b'0' {
@@ -15,7 +15,7 @@ pub fn is_digit(b: u8) -> bool
 }
 
 // The number that a digit says.
-pub fn digit_of(b: u8) -> u64
+pub(crate) fn digit_of(b: u8) -> u64
     requires { ⌜ isDigit b ≡ true ⌝ }
     ensures { λ r. ⌜ r ≡ b - 48 ⌝ }
 {

@@ -1,10 +1,16 @@
-// Level texts, read from the left: each state of the grammar is a function of what is left of the text.
+// Level texts: read from the left, where each state of the grammar is a function of what is left of the text; measured; and written into a lent buffer.
 use crate::digit::digit_of;
 use crate::digit::is_digit;
+use crate::number::number_length;
+use crate::number::put_number;
+use crate::sign::magnitude;
 use crate::sign::with_sign;
+use crate::written::put_byte;
 ghost use mathlib.Core.Path.{_≡_};
-ghost use Prim.Native.Nat.{_<_};
-ghost use Rattle.text.specs.Level.{levelTenth, levelPoint, levelMore, levelWhole, readLevel};
+ghost use Prim.Native.Nat.{_+_, _<_, _≤_};
+ghost use lib.ListN.{length};
+ghost use Rattle.text.specs.Written.{Wrote};
+ghost use Rattle.text.specs.Level.{levelMore, levelPoint, levelTenth, levelText, levelWhole, oneDecimalText, readLevel, shortTenthText, signText, tenthText, wholeText};
 
 // What a level text says, in tenths of a dB, or that it is none.
 pub enum Level {
@@ -81,4 +87,84 @@ pub fn read_level(s: &[u8]) -> Level
         return read_whole(true, &s[1..]);
     }
     read_whole(false, s)
+}
+
+// How long the sign of `v` is.
+fn sign_length(v: i64) -> usize
+    ensures { λ r. ⌜ r ≡ length (signText v) ⌝ }
+{
+    if v < 0 {
+        return 1;
+    }
+    0
+}
+
+// How long the tenth `d` is where a zero is left out.
+fn tenth_length(d: u64) -> usize
+    ensures { λ r. ⌜ r ≡ length (shortTenthText d) ⌝ }
+{
+    if d == 0 {
+        return 0;
+    }
+    2
+}
+
+// How long the shortest text of `v` tenths is.
+pub fn level_length(v: i64) -> usize
+    ensures { λ r. ⌜ r ≡ length (levelText v) ⌝ }
+{
+    let size = magnitude(v);
+    sign_length(v) + number_length(size / 10) + tenth_length(size % 10)
+}
+
+// A `-` where `v` is below 0.
+fn put_sign(buffer: &mut [u8], at: usize, v: i64) -> usize
+    requires { ⌜ at + length (signText v) ≤ length (now buffer) ⌝ }
+    ensures { λ r. ⌜ Wrote (now (buffer .entry)) at (signText v) r (now (buffer .exit)) ⌝ }
+{
+    if v < 0 {
+        return put_byte(buffer, at, b'-');
+    }
+    at
+}
+
+// The sign and the whole part of `v` tenths.
+fn put_whole(buffer: &mut [u8], at: usize, v: i64) -> usize
+    requires { ⌜ at + length (wholeText v) ≤ length (now buffer) ⌝ }
+    ensures { λ r. ⌜ Wrote (now (buffer .entry)) at (wholeText v) r (now (buffer .exit)) ⌝ }
+{
+    let next = put_sign(buffer, at, v);
+    put_number(buffer, next, magnitude(v) / 10)
+}
+
+// A point and the tenth `d`.
+fn put_tenth(buffer: &mut [u8], at: usize, d: u64) -> usize
+    requires { ⌜ d < 10 ⌝ }
+    requires { ⌜ at + 2 ≤ length (now buffer) ⌝ }
+    ensures { λ r. ⌜ Wrote (now (buffer .entry)) at (tenthText d) r (now (buffer .exit)) ⌝ }
+{
+    let next = put_byte(buffer, at, b'.');
+    put_byte(buffer, next, b'0' + d as u8)
+}
+
+// The shortest text of `v` tenths.
+pub fn put_level(buffer: &mut [u8], at: usize, v: i64) -> usize
+    requires { ⌜ at + length (levelText v) ≤ length (now buffer) ⌝ }
+    ensures { λ r. ⌜ Wrote (now (buffer .entry)) at (levelText v) r (now (buffer .exit)) ⌝ }
+{
+    let tenth = magnitude(v) % 10;
+    let next = put_whole(buffer, at, v);
+    if tenth == 0 {
+        return next;
+    }
+    put_tenth(buffer, next, tenth)
+}
+
+// The text of `v` tenths with exactly one decimal.
+pub fn put_level_one_decimal(buffer: &mut [u8], at: usize, v: i64) -> usize
+    requires { ⌜ at + length (oneDecimalText v) ≤ length (now buffer) ⌝ }
+    ensures { λ r. ⌜ Wrote (now (buffer .entry)) at (oneDecimalText v) r (now (buffer .exit)) ⌝ }
+{
+    let next = put_whole(buffer, at, v);
+    put_tenth(buffer, next, magnitude(v) % 10)
 }

@@ -1,6 +1,10 @@
-// Switch texts.
+// Switch texts: read, and written into a lent buffer.
+use crate::written::put_byte;
 ghost use mathlib.Core.Path.{_≡_};
-ghost use Rattle.text.specs.Switch.{readSwitch};
+ghost use Prim.Native.Nat.{_+_, _≤_};
+ghost use lib.ListN.{length};
+ghost use Rattle.text.specs.Switch.{readSwitch, switchText};
+ghost use Rattle.text.specs.Written.{Wrote};
 
 // What a switch text says, or that it is none.
 pub enum Switch {
@@ -28,4 +32,15 @@ pub fn read_switch(s: &[u8]) -> Switch
         return Switch::Turn;
     }
     Switch::Wrong
+}
+
+// `F` where `n` is 0, else `O`.
+pub fn put_switch(buffer: &mut [u8], at: usize, n: u64) -> usize
+    requires { ⌜ at + length (switchText n) ≤ length (now buffer) ⌝ }
+    ensures { λ r. ⌜ Wrote (now (buffer .entry)) at (switchText n) r (now (buffer .exit)) ⌝ }
+{
+    if n == 0 {
+        return put_byte(buffer, at, b'F');
+    }
+    put_byte(buffer, at, b'O')
 }

@@ -1,8 +1,8 @@
 // Parameters: the rows of the modules.
-use catalogue::compare::same_indices;
 use catalogue::lent_row::row_of;
 use catalogue::row::Indices;
 use catalogue::row::Row;
+use catalogue::row::same_indices;
 use catalogue::row_count;
 use record::body::body_length;
 use room::table::Module;
@@ -67,7 +67,7 @@ pub fn parameter_count(table: &[u8]) -> usize
 }
 
 // Parameter k of a table, counted from 0.
-pub fn parameter_at(table: &[u8], rows: &[[i32; 8]; 50], k: usize) -> ParameterFound
+pub(crate) fn parameter_at(table: &[u8], rows: &[[i32; 8]; 50], k: usize) -> ParameterFound
     requires { ⌜ (sound (now table) ≡ true) × (now rows ≡ numbers) ⌝ }
     ensures { λ r. ⌜ r ≡ parameterAt (parameters (now (table .entry))) k ⌝ }
 {

@@ -2,7 +2,7 @@
 use crate::parameter::ParameterFound;
 use crate::parameter::parameter_at;
 use crate::parameter::parameter_count;
-use catalogue::permit::start_of;
+use catalogue::row::start_of;
 ghost use mathlib.Core.Bool.{true};
 ghost use mathlib.Core.Path.{_≡_};
 ghost use Prim.Native.Nat.{_≤_};

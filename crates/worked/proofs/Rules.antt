@@ -6,7 +6,7 @@ use native.Mathlib.Omega.{arith}
 use lib.IntN.{ℤ}
 use lib.ListN.{length}
 use Rattle.values.specs.Parameters.{parameters}
-use Rattle.text.specs.Every.{test-held}
+use Rattle.text.specs.Every.Laws.{test-held}
 use Rattle.values.specs.Starts.{starts}
 use Rattle.values.specs.Starts.Filling.{length-starts}
 

@@ -13,12 +13,12 @@ use Rattle.syntax.specs.Shape.{lineLimit}
 use Rattle.serial_port.specs.Port.{View, view}
 use Rattle.serial_port.specs.Call.{Answers, Handed, Step, call, step, tell, tells}
 use Rattle.serial_port.specs.Refusal.{callNumber}
-use Rattle.text.specs.Every.{test-held}
+use Rattle.text.specs.Every.Laws.{test-held}
 use Rattle.serial_port.specs.declared.port.Port.{Port}
 use Rattle.serial_port.specs.declared.port.Called.{Called}
 use Rattle.capi.specs.Port.{Left, PortCalled, Stores, bytesOf, counted, portAnswer, portLent, portNumber, portOf, portTells}
 use Rattle.capi.specs.Port.Lending.{lent-facts}
-use Rattle.capi.specs.Told.{misLent}
+use Rattle.capi.specs.Counts.{misLent}
 use Rattle.serial_port.specs.Call.Laws.{told-by, handed-by}
 
 -- ---- the stored port is seen as the port

@@ -10,7 +10,7 @@ use Rattle.serial_port.specs.Port.{View, fresh, view}
 use Rattle.serial_port.specs.Call.{call, tell}
 use Rattle.serial_port.specs.Refusal.{callNumber}
 use Rattle.capi.specs.Port.{Stores, counted, portAnswer, portLent, portOf, portTells}
-use Rattle.capi.specs.Told.{misLent}
+use Rattle.capi.specs.Counts.{misLent}
 
 -- 66 zero bytes are the fresh port
 pub zeros-fresh : view (portOf (replicate 66 0)) ≡ fresh

@@ -5,7 +5,8 @@ use mathlib.Core.List.{List, [], _∷_}
 use Prim.Native.Nat.{ℕ}
 use borrow.Author.Tests.{eq-eqb, eqb-true}
 use lib.Dec.{eqb}
-use Rattle.text.specs.Every.{both-left, both-right, every, pairs}
+use Rattle.text.specs.Every.Laws.{both-left, both-right}
+use Rattle.text.specs.Every.{every, pairs}
 use Rattle.catalogue.specs.Catalogue.{Entry, catalogue, rowsIn, rowsOf}
 use Rattle.catalogue.specs.Catalogue.Each.{rows-tested}
 use Rattle.catalogue.specs.Catalogue.Rules.{catalogue-distinct, differ}

@@ -5,7 +5,8 @@ use mathlib.Core.List.{List, [], _∷_}
 use Prim.Native.Nat.{ℕ}
 use borrow.Author.Tests.{eqb-true}
 use lib.Dec.{eqb}
-use Rattle.text.specs.Every.{both-left, both-right, every}
+use Rattle.text.specs.Every.Laws.{both-left, both-right}
+use Rattle.text.specs.Every.{every}
 use Rattle.catalogue.specs.Catalogue.{Entry, rowsIn}
 use Rattle.catalogue.specs.declared.row.Row.{Row}
 

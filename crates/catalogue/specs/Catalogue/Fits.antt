@@ -6,7 +6,8 @@ use borrow.Author.Tests.{ltb-true}
 use lib.Dec.{ltb}
 use lib.ListN.{length}
 use lib.Signed.{mag}
-use Rattle.text.specs.Every.{both-left, both-right, every, every-at}
+use Rattle.text.specs.Every.Laws.{both-left, both-right, every-at}
+use Rattle.text.specs.Every.{every}
 use Rattle.catalogue.specs.Catalogue.{catalogue, level, minus, number, switch}
 use Rattle.catalogue.specs.Catalogue.Each.{entryTest}
 use Rattle.catalogue.specs.Catalogue.Rules.{entryAt, noEntry}

@@ -10,7 +10,7 @@ use lib.ListN.{length, getD, take, drop, List·getD-map}
 use lib.Seq.{getD-take, getD-drop}
 use mir.Syntax.{w64}
 use mir.Val.{Fits}
-use Rattle.text.specs.Every.{both-left, both-right}
+use Rattle.text.specs.Every.Laws.{both-left, both-right}
 use Rattle.catalogue.specs.Catalogue.{Entry, catalogue, firstRow, known, level, minus, number, rowsBefore, rowsIn, rowsOf, switch}
 use Rattle.catalogue.specs.Catalogue.Rules.{entryAt, noEntry, noRow, rowOf}
 use Rattle.catalogue.specs.declared.row.Row.{Row}

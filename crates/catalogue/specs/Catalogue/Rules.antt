@@ -8,7 +8,8 @@ use lib.Dec.{eqb, ltb}
 use lib.IntN.{natAbs, _-ℤ_}
 use lib.ListN.{getD, length}
 use lib.Signed.{ltZ}
-use Rattle.text.specs.Every.{both-left, both-right, every, every-at, pairs, pairs-at}
+use Rattle.text.specs.Every.Laws.{both-left, both-right, every-at, pairs-at}
+use Rattle.text.specs.Every.{every, pairs}
 use Rattle.catalogue.specs.Catalogue.{Entry, catalogue, firstNumber, level, minus, number, rowsOf, secondNumber, switch}
 use Rattle.catalogue.specs.Row.{sameIndices}
 use Rattle.catalogue.specs.declared.row.Indices.the-variants.{OneGroup}

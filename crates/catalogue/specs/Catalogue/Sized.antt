@@ -7,7 +7,8 @@ use borrow.Author.Tests.{eqb-true, leb-true, ltb-true}
 use lib.Dec.{eqb, ltb}
 use lib.IntN.{ℤ, pos, negsuc, natAbs, _-ℤ_}
 use lib.Signed.{leZ}
-use Rattle.text.specs.Every.{both-left, both-right, every, never}
+use Rattle.text.specs.Every.Laws.{both-left, both-right, never}
+use Rattle.text.specs.Every.{every}
 use Rattle.catalogue.specs.Catalogue.{catalogue, level as level′, minus, number as number′, rowsOf, switch as switch′}
 use Rattle.catalogue.specs.Catalogue.Each.{entryTest, every-type}
 use Rattle.catalogue.specs.Row.{permitted}

@@ -4,7 +4,7 @@ use mathlib.Core.Bool.{false, true}
 use Prim.Native.Nat.{ℕ}
 use borrow.Author.Tests.{eq-eqb, eqb-true, ne-eqb}
 use lib.Dec.{eqb}
-use Rattle.text.specs.Every.{both-left, both-right, never}
+use Rattle.text.specs.Every.Laws.{both-left, both-right, never}
 use Rattle.catalogue.specs.Row.{sameIndices}
 use Rattle.catalogue.specs.declared.row.Indices.{Indices}
 use Rattle.catalogue.specs.declared.row.Indices.the-variants.{OneGroup, TwoGroups}

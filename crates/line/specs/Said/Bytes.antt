@@ -6,8 +6,9 @@ use Prim.Native.Nat.{ℕ}
 use lib.IntN.{ℤ}
 use Rattle.text.specs.Byte.{isByte}
 use Rattle.text.specs.Digits.{digits}
-use Rattle.text.specs.Every.{every, every-append}
-use Rattle.text.specs.ValueBytes.{digits-bytes, are-bytes}
+use Rattle.text.specs.Every.{every}
+use Rattle.text.specs.Every.Laws.{every-append}
+use Rattle.text.specs.Byte.Values.{digits-bytes, are-bytes}
 use Rattle.record.specs.Field.{labelRight}
 use Rattle.record.specs.Field.Bytes.{label-bytes}
 use Rattle.room.specs.Label.{label}

@@ -12,10 +12,10 @@ use Rattle.text.specs.Cut.Lacking.{lacks-cons, lacks-append, has-not, has-joine
 use Rattle.text.specs.Digits.{isDigit, digits}
 use Rattle.text.specs.Number.{readNumber}
 use Rattle.text.specs.Number.Laws.{number-back, number-shortest}
-use Rattle.text.specs.ValueBytes.{valueByte, digits-bytes, no-other}
+use Rattle.text.specs.Byte.Values.{valueByte, digits-bytes, no-other}
 use Rattle.text.specs.declared.number.Number.{Number}
 use Rattle.text.specs.declared.number.Number.the-variants as read
-use Rattle.text.specs.Every.{both-left, both-right}
+use Rattle.text.specs.Every.Laws.{both-left, both-right}
 use Rattle.catalogue.specs.Catalogue.Sized.{sizedIndices}
 use Rattle.catalogue.specs.declared.row.Indices.{Indices}
 use Rattle.catalogue.specs.declared.row.Indices.the-variants.{OneGroup, TwoGroups}

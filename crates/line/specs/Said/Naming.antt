@@ -9,8 +9,8 @@ use lib.ListN.{length, getD}
 use Rattle.text.specs.Cut.{indexOf}
 use Rattle.text.specs.Cut.Lacking.{lacks-cons, lacks-append}
 use Rattle.text.specs.Digits.{isDigit}
-use Rattle.text.specs.ValueBytes.{valueByte}
-use Rattle.text.specs.Every.{both-left}
+use Rattle.text.specs.Byte.Values.{valueByte}
+use Rattle.text.specs.Every.Laws.{both-left}
 use Rattle.catalogue.specs.Catalogue.Sized.{Sized, permitted-sized, sizedBounds, sizedIndices, sizedRow}
 use Rattle.room.specs.Label.{label, bearer}
 use Rattle.room.specs.Label.Laws.{bearer-found}

@@ -16,7 +16,7 @@ use Rattle.text.specs.Number.{readNumber}
 use Rattle.text.specs.Number.Laws.{number-back, number-shortest}
 use Rattle.text.specs.Switch.{readSwitch, switchText}
 use Rattle.text.specs.Switch.Laws.{off-back, on-back, switch-one, switch-length}
-use Rattle.text.specs.ValueBytes.{valueByte, digits-bytes, level-bytes, decimal-bytes, switch-bytes, no-other}
+use Rattle.text.specs.Byte.Values.{valueByte, digits-bytes, level-bytes, decimal-bytes, switch-bytes, no-other}
 use Rattle.text.specs.declared.level.Level.{Level}
 use Rattle.text.specs.declared.level.Level.the-variants as level
 use Rattle.text.specs.declared.number.Number.{Number}

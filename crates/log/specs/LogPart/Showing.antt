@@ -23,7 +23,7 @@ use Rattle.syntax.specs.Shape.{firstFrom, part}
 use Rattle.log.specs.declared.part.LogPart.{LogPart}
 use Rattle.log.specs.declared.part.LogPart.the-variants.{Table, Line, Nothing}
 use Rattle.text.specs.Cut.Laws.{index-within}
-use Rattle.text.specs.Every.{test-held}
+use Rattle.text.specs.Every.Laws.{test-held}
 
 -- ---- the table
 

@@ -9,7 +9,8 @@ use lib.Dec.{eqb, leb}
 use lib.ListN.{length, getD}
 use Rattle.text.specs.Byte.{isByte}
 use Rattle.text.specs.Cut.{indexOf}
-use Rattle.text.specs.Every.{both-left, both-right, every, every-weaker}
+use Rattle.text.specs.Every.Laws.{both-left, both-right, every-weaker}
+use Rattle.text.specs.Every.{every}
 use Rattle.record.specs.Field.{labelByte, labelRight}
 
 pub record Printed (b : ℕ) : Type 0 where

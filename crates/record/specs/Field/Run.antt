@@ -10,7 +10,8 @@ use lib.Dec.{eqb}
 use lib.ListN.{length, getD, take, drop, drop-of-length-le, length-drop}
 use lib.Seq.{drop-cons, length-take-le}
 use Rattle.text.specs.Cut.{before, indexOf}
-use Rattle.text.specs.Every.{both-left, both-right, every}
+use Rattle.text.specs.Every.Laws.{both-left, both-right}
+use Rattle.text.specs.Every.{every}
 use Rattle.record.specs.Field.Bytes.{Right, label-byte, label-right}
 use Rattle.record.specs.Field.{fieldSound, isZero, labelByte, labelRight}
 use Rattle.text.specs.Cut.Laws.{index-within}

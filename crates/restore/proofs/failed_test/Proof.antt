@@ -1,6 +1,6 @@
 -- `failed_test`: each test in its turn.
 use borrow.Author.Needs.{needs}
-use Rattle.restore.specs.Testing.{testing}
+use Rattle.restore.specs.Demand.Testing.{testing}
 use Rattle.restore.proofs.failed_test.Statement.{statement}
 use Rattle.restore.proofs.failed_test.Tie as tie
 

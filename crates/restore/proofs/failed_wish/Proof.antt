@@ -1,6 +1,6 @@
 -- `failed_wish`: each test in its turn.
 use borrow.Author.Needs.{needs}
-use Rattle.restore.specs.Testing.{wish-testing}
+use Rattle.restore.specs.Demand.Testing.{wish-testing}
 use Rattle.restore.proofs.failed_wish.Statement.{statement}
 use Rattle.restore.proofs.failed_wish.Tie as tie
 

@@ -1,6 +1,6 @@
 -- `list_changes`: measured first, then written.
 use borrow.Author.Needs.{needs}
-use Rattle.restore.specs.Calling.{listing-call}
+use Rattle.restore.specs.Demand.Calling.{listing-call}
 use Rattle.restore.proofs.list_changes.Statement.{statement}
 use Rattle.restore.proofs.list_changes.Tie as tie
 

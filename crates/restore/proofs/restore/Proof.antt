@@ -1,6 +1,6 @@
 -- `restore`: nothing is listed where a test fails.
 use borrow.Author.Needs.{needs}
-use Rattle.restore.specs.Calling.{testing-call}
+use Rattle.restore.specs.Demand.Calling.{testing-call}
 use Rattle.restore.proofs.restore.Statement.{statement}
 use Rattle.restore.proofs.restore.Tie as tie
 

@@ -20,17 +20,17 @@ use Rattle.serial_port.specs.Play.Kept.{feed-keeps, bound}
 use Rattle.serial_port.specs.Play.Laws.{Right, keeps-right, plays}
 use Rattle.wish.specs.Target.{Wish, target}
 use Rattle.wish.specs.Target.Laws.{target-right}
-use Rattle.restore.specs.Lines.{Lines}
-use Rattle.restore.specs.Lines.Promise.{promise}
-use Rattle.restore.specs.Lines.Reach.{Stays, keeps-unreachable}
-use Rattle.restore.specs.Lines.Price.{potential, lowers, price-reached, price-listing}
+use Rattle.restore.specs.Demand.Lines.{Lines}
+use Rattle.restore.specs.Demand.Lines.Promise.{promise}
+use Rattle.restore.specs.Demand.Lines.Reach.{Stays, keeps-unreachable}
+use Rattle.restore.specs.Demand.Lines.Price.{potential, lowers, price-reached, price-listing}
 use Rattle.wish.specs.Listing.{Admitted, changes, listing, allReachable, listNumber, tell, restore}
 use Rattle.wish.specs.Listing.Beyond.{beyond}
 use Rattle.wish.specs.Listing.Numbers.{number-list}
 use Rattle.wish.specs.Listing.Counted.{lines-differing}
 use Rattle.restore.specs.Demand.Played.{AllSayable, all-sayable, from-start, done, listing-bytes, play-listing}
 use Rattle.restore.specs.Demand.{Fulfils, Shortest, Listed, Demanded, accepted, unreachable, no-room, DemandThree, tells, Restores, restores}
-use Rattle.restore.specs.declared.demand.Restored.{Restored}
+use Rattle.restore.specs.declared.Restored.{Restored}
 use Rattle.values.specs.Values.Laws.{values-many, values-each}
 
 -- the list of a wish

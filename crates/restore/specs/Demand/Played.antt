@@ -10,7 +10,8 @@ use lib.ListN.{length, set, replicate, length-append}
 use lib.Seq.{append-snoc, set-at}
 use Rattle.catalogue.specs.Row.{permitted}
 use Rattle.text.specs.Byte.{isByte}
-use Rattle.text.specs.Every.{both-left, both-right, every, every-append}
+use Rattle.text.specs.Every.Laws.{both-left, both-right, every-append}
+use Rattle.text.specs.Every.{every}
 use Rattle.values.specs.Parameters.{parameters, place, parameterAt}
 use Rattle.values.specs.Values.{eachPermitted, equal}
 use Rattle.values.specs.declared.parameter.Parameter.{Parameter}
@@ -23,8 +24,8 @@ use Rattle.serial_port.specs.Port.{fresh}
 use Rattle.serial_port.specs.Play.{Played, ended, replyFirst, feed}
 use Rattle.serial_port.specs.Play.Feed.{finished, feed-line, feed-nothing}
 use Rattle.wish.specs.Listing.{Change, changesOf, lineOf, listing, reachable, allReachable}
-use Rattle.restore.specs.Lines.{Lines}
-use Rattle.restore.specs.Lines.Reach.{reachable-settable}
+use Rattle.restore.specs.Demand.Lines.{Lines}
+use Rattle.restore.specs.Demand.Lines.Reach.{reachable-settable}
 use Rattle.values.specs.Values.Laws.{equal-true}
 
 -- a change that a line can make

@@ -6,7 +6,7 @@ use Prim.Native.Nat.{ℕ, _+_, _≤_}
 use native.Mathlib.Omega.{arith}
 use lib.IntN.{ℤ}
 use lib.ListN.{length, length-append}
-use Rattle.text.specs.Every.{never}
+use Rattle.text.specs.Every.Laws.{never}
 use Rattle.catalogue.specs.declared.row.Row.{Row}
 use Rattle.room.specs.Label.{bearer, label}
 use Rattle.values.specs.Parameters.{numbered, parametersOf}

@@ -6,7 +6,7 @@ use native.Mathlib.Omega.{arith}
 use lib.IntN.{ℤ}
 use lib.ListN.{length, take, drop}
 use Rattle.catalogue.specs.Catalogue.{rowsOf}
-use Rattle.text.specs.Part.{part-within}
+use Rattle.text.specs.Cut.Part.{part-within}
 use Rattle.room.specs.declared.table.Module.{Module}
 use Rattle.restore_list.specs.Measuring.{Settles, rowChanges, valuesOf}
 use Rattle.restore_list.specs.declared.module_measuring.Measured.{Measured}

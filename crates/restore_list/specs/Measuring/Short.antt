@@ -9,7 +9,7 @@ use lib.ListN.{length, getD, length-append}
 use mir.Syntax.{w64}
 use mir.Val.{SFits}
 use mir.Facts.{toZ-ofZ}
-use Rattle.text.specs.Every.{both-left, every-at}
+use Rattle.text.specs.Every.Laws.{both-left, every-at}
 use Rattle.catalogue.specs.Catalogue.{rowsOf}
 use Rattle.catalogue.specs.Catalogue.Rules.{noRow, rowOf}
 use Rattle.catalogue.specs.Catalogue.Sized.{sizedBounds, sizedIndices, sizedRow, type-sized}

@@ -11,7 +11,7 @@ use lib.IntN.{ℤ}
 use lib.ListN.{length, getD, take, drop, length-drop}
 use lib.Seq.{drop-drop}
 use Rattle.catalogue.specs.Catalogue.{rowsOf}
-use Rattle.text.specs.Every.{both-left}
+use Rattle.text.specs.Every.Laws.{both-left}
 use Rattle.catalogue.specs.declared.row.Row.{Row}
 use Rattle.room.specs.Table.{modules, sound}
 use Rattle.record.specs.Body.{bodyLength}

@@ -9,7 +9,8 @@ use lib.Dec.{eqb, ltb}
 use lib.ListN.{length, getD, take, drop, length-take, length-drop, List·getD-eq-default}
 use lib.Seq.{drop-cons, getD-drop, getD-take, length-take-le, take-take}
 use Rattle.text.specs.Cut.{before, indexOf}
-use Rattle.text.specs.Every.{both-left, both-right, every}
+use Rattle.text.specs.Every.Laws.{both-left, both-right}
+use Rattle.text.specs.Every.{every}
 use Rattle.record.specs.Field.{labelByte, labelRight}
 use Rattle.room.specs.Label.{same}
 use Rattle.record.specs.Field.Bytes.{label-byte, label-right}

@@ -8,7 +8,8 @@ use lib.Dec.{eqb}
 use lib.ListN.{length, getD, take, drop}
 use Rattle.text.specs.Cut.{before, indexOf}
 use Rattle.catalogue.specs.Catalogue.{known, rowsOf}
-use Rattle.text.specs.Every.{both-left, both-right, every}
+use Rattle.text.specs.Every.Laws.{both-left, both-right}
+use Rattle.text.specs.Every.{every}
 use Rattle.room.specs.Table.{moduleAt, modules, sound}
 use Rattle.record.specs.Body.{bodyLength, bodySound}
 use Rattle.record.specs.Field.{fieldSound, isZero, labelRight}

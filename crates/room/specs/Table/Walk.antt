@@ -12,7 +12,7 @@ use lib.Dec.{eqb, ltb}
 use lib.ListN.{length, getD, take, drop, length-take, length-drop, drop-of-length-le}
 use lib.Seq.{drop-cons, drop-drop}
 use Rattle.catalogue.specs.Catalogue.{known, rowsOf}
-use Rattle.text.specs.Every.{both-left, both-right}
+use Rattle.text.specs.Every.Laws.{both-left, both-right}
 use Rattle.catalogue.specs.Catalogue.Laws.{rows-few}
 use Rattle.room.specs.Table.{modules, modulesFrom, recordLimit, recordsSound, sound}
 use Rattle.record.specs.Body.{bodyLength, bodySound}

@@ -27,7 +27,7 @@ use Rattle.serial_port.specs.Refusal.Telling.{none-told}
 use Rattle.serial_port.specs.Call.Rules.{returns-refused, returns-waiting, returns-finished}
 use Rattle.serial_port.specs.declared.port.Port.{Port}
 use Rattle.text.specs.Cut.Laws.{index-within}
-use Rattle.text.specs.Part.{part-counts}
+use Rattle.text.specs.Cut.Part.{part-counts}
 use Rattle.text.specs.Written.Laws.{past-by, bytes-by}
 
 -- ---- a call with its number

@@ -6,7 +6,7 @@ use Prim.Native.Nat.{ℕ, _+_, _-_, _≤_, _<_}
 use native.Mathlib.Omega.{arith}
 use lib.ListN.{length, take, drop, length-append}
 use lib.Seq.{sets, sets-eq, take-at, length-take-le}
-use Rattle.text.specs.Part.{part-counts}
+use Rattle.text.specs.Cut.Part.{part-counts}
 use Rattle.text.specs.Written.{Wrote}
 use Rattle.syntax.specs.Shape.{lineLimit}
 use Rattle.serial_port.specs.Port.{view, fit, join}

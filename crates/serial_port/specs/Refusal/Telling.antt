@@ -7,7 +7,7 @@ use native.Mathlib.Omega.{arith}
 use borrow.Author.Tests.{not-true, leb-true}
 use lib.Dec.{leb}
 use lib.IntN.{ℤ}
-use Rattle.text.specs.Every.{test-held}
+use Rattle.text.specs.Every.Laws.{test-held}
 use Rattle.room.specs.Table.{sound}
 use Rattle.values.specs.Values.{valuesSound}
 use Rattle.syntax.specs.Shape.{lineLimit}

@@ -10,7 +10,7 @@ use mir.Syntax.{w64}
 use mir.Val.{Fits}
 use Rattle.text.specs.Digits.{digits}
 use Rattle.text.specs.Digits.Value.{digits-short}
-use Rattle.text.specs.Every.{both-left, both-right}
+use Rattle.text.specs.Every.Laws.{both-left, both-right}
 use Rattle.catalogue.specs.Catalogue.Sized.{sizedIndices}
 use Rattle.catalogue.specs.declared.row.Indices.{Indices}
 use Rattle.catalogue.specs.declared.row.Indices.the-variants.{OneGroup, TwoGroups}

@@ -23,7 +23,7 @@ use Rattle.text.specs.declared.number.Number.{Number}
 use Rattle.text.specs.declared.number.Number.the-variants as number
 use Rattle.text.specs.declared.switch.Switch.{Switch}
 use Rattle.text.specs.declared.switch.Switch.the-variants as switch
-use Rattle.text.specs.Every.{both-left, both-right}
+use Rattle.text.specs.Every.Laws.{both-left, both-right}
 use Rattle.catalogue.specs.Row.{permitted}
 use Rattle.catalogue.specs.Row.Laws.{RowFits, bits, between, value-bits}
 use Rattle.catalogue.specs.declared.row.Row.{Row}

@@ -11,7 +11,8 @@ use lib.Dec.{eqb}
 use lib.ListN.{length, getD, take, drop, drop-of-length-le}
 use lib.Seq.{drop-cons}
 use Rattle.text.specs.Cut.{indexOf}
-use Rattle.text.specs.Every.{every, every-both}
+use Rattle.text.specs.Every.{every}
+use Rattle.text.specs.Every.Laws.{every-both}
 
 at-head : (b x : ℕ) (s : List ℕ) → x ≡ b → indexOf b (x ∷ s) ≡ 0
 unfolding indexOf

@@ -10,7 +10,8 @@ use borrow.Author.Tests.{lt-ltb, le-ltb, le-leb, lt-leb, leb-true}
 use lib.Dec.{leb, ltb}
 use lib.ListN.{length, length-append}
 use Rattle.text.specs.Digits.{isDigit, allDigits, digitsWithin, digits}
-use Rattle.text.specs.Every.{both, every, every-append, every-both}
+use Rattle.text.specs.Every.Laws.{both, every-append, every-both}
+use Rattle.text.specs.Every.{every}
 
 -- ---- one digit, and one more
 

@@ -1,34 +1,14 @@
--- How each text is written: a rule for each return and each call of its writer.
+-- How digits are written: a rule for each return and each call of the writer.
 use mathlib.Core.Path.{_≡_}
 use mathlib.Core.List.{List, [], _∷_}
 use Prim.Native.Nat.{ℕ, _+_, _/_, _%_, _≤_, _<_}
 use native.Mathlib.Decide.{decLt}
 use native.Mathlib.Omega.{arith}
-use borrow.Author.Tests.{eq-eqb, ne-eqb}
 use lib.ListN.{length}
 use Rattle.text.specs.Digits.{digits}
 use Rattle.text.specs.Digits.Laws.{one-digit, more-digits, more-length, some-digits}
-use Rattle.text.specs.Switch.{switchText}
 use Rattle.text.specs.Written.{Wrote}
 use Rattle.text.specs.Written.Laws.{wrote-join, wrote-length, past-by}
-
--- ---- switches
-
-pub switch-room : (n at long : ℕ) → at + length (switchText n) ≤ long → at + 1 ≤ long
-unfolding switchText
-switch-room n at long h = h
-
-pub wrote-off : (l : List ℕ) (at n r : ℕ) (m : List ℕ) → n ≡ 0 → Wrote l at (70 ∷ []) r m → Wrote l at (switchText n) r m
-unfolding switchText
-wrote-off l at n r m e w = rw (eq-eqb n 0 e) w
-
-pub wrote-on : (l : List ℕ) (at n r : ℕ) (m : List ℕ) → (n ≡ 0 → ⊥) → Wrote l at (79 ∷ []) r m → Wrote l at (switchText n) r m
-unfolding switchText
-wrote-on l at n r m e w = rw (ne-eqb n 0 e) w
-
-pub ruleset switch-writing = (switch-room, wrote-off, wrote-on)
-
--- ---- numbers
 
 pub one-room : (n at long : ℕ) → at + length (digits n) ≤ long → at + 1 ≤ long
 one-room n at long r = let e = some-digits n in omega arith

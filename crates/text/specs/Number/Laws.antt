@@ -13,7 +13,7 @@ use Rattle.text.specs.Digits.Laws.{digits-are-digits, some-digits}
 use Rattle.text.specs.Digits.Value.{digits-say, number-bound, digits-short, digits-shortest}
 use Rattle.text.specs.Number.{numberForm, readNumber}
 use Rattle.text.specs.declared.number.Number.the-variants.{Value, Wrong}
-use Rattle.text.specs.Every.{both}
+use Rattle.text.specs.Every.Laws.{both}
 
 -- s is one to `width` digits that say n
 pub record NumberText (width : ℕ) (s : List ℕ) (n : ℕ) : Type 0 where

@@ -6,7 +6,8 @@ use Prim.Native.Nat.{ℕ, zero, suc, _+_}
 use native.Mathlib.Nat.{zero-add}
 use borrow.Author.Tests.{not-true}
 use Rattle.catalogue.specs.Catalogue.{rowsOf}
-use Rattle.text.specs.Every.{both-left, both-right, every, pairs}
+use Rattle.text.specs.Every.Laws.{both-left, both-right}
+use Rattle.text.specs.Every.{every, pairs}
 use Rattle.catalogue.specs.Catalogue.Distinct.{rowsDiffer, type-distinct}
 use Rattle.catalogue.specs.Catalogue.Sized.{sizedRow, type-sized}
 use Rattle.catalogue.specs.Row.{sameIndices}

@@ -6,7 +6,7 @@ use Prim.Native.Nat.{ℕ, zero, suc, _+_, _*_, _≤_}
 use native.Mathlib.Omega.{arith}
 use lib.Dec.{eqb}
 use lib.ListN.{length, drop, take, length-append}
-use Rattle.text.specs.Every.{both-left, both-right}
+use Rattle.text.specs.Every.Laws.{both-left, both-right}
 use Rattle.catalogue.specs.Catalogue.{known, rowsOf}
 use Rattle.catalogue.specs.Catalogue.Laws.{rows-few}
 use Rattle.values.specs.Parameters.{parameters, parametersIn}

@@ -9,7 +9,7 @@ use lib.Dec.{eqb}
 use lib.IntN.{ℤ}
 use lib.ListN.{length, getD, take, drop}
 use Rattle.catalogue.specs.Catalogue.{rowsOf}
-use Rattle.text.specs.Part.{part-left}
+use Rattle.text.specs.Cut.Part.{part-left}
 use Rattle.values.specs.Parameters.{numbered, parametersOf}
 use Rattle.values.specs.Parameters.Walk.{moduleHere}
 use Rattle.catalogue.specs.Row.{permitted}

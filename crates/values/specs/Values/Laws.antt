@@ -8,7 +8,7 @@ use borrow.Author.Tests.{eqb-true, eq-eqb}
 use lib.Dec.{eqb}
 use lib.IntN.{ℤ, pos, negsuc}
 use lib.ListN.{length, set, getD, length-set}
-use Rattle.text.specs.Every.{both-left, both-right}
+use Rattle.text.specs.Every.Laws.{both-left, both-right}
 use Rattle.values.specs.Parameters.{parameters, parameterAt}
 use Rattle.values.specs.Parameters.Places.{found-same, never-found}
 use Rattle.catalogue.specs.Row.{permitted}

@@ -9,7 +9,7 @@ use lib.Dec.{eqb}
 use lib.IntN.{ℤ}
 use lib.ListN.{length}
 use Rattle.catalogue.specs.Row.{permitted}
-use Rattle.text.specs.Every.{both-left, both-right}
+use Rattle.text.specs.Every.Laws.{both-left, both-right}
 use Rattle.values.specs.Parameters.{parameters}
 use Rattle.values.specs.Values.{eachPermitted, valuesSound}
 use Rattle.values.specs.declared.parameter.Parameter.{Parameter}

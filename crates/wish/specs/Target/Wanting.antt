@@ -19,8 +19,9 @@ use Rattle.values.specs.Parameters.Walk.{moduleHere}
 use Rattle.values.specs.Permit.{rowsPermit}
 use Rattle.values.specs.Values.Each.{Each, Tests, each-all, each-next, each-short, each-start, each-wrong}
 use Rattle.room.specs.declared.table.Module.{Module}
-use Rattle.text.specs.Every.{both-left, every}
-use Rattle.text.specs.Part.{part-left}
+use Rattle.text.specs.Every.Laws.{both-left}
+use Rattle.text.specs.Every.{every}
+use Rattle.text.specs.Cut.Part.{part-left}
 use Rattle.wish.specs.Target.{atMostOne, chosen, chosenPermitted, selectionRight, wantedRight}
 
 -- ---- one module: its entries are permitted, or it is not chosen

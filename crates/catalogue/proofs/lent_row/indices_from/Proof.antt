@@ -1,6 +1,6 @@
 -- `indices_from`: the sign of the second number tells the groups.
 use borrow.Author.Needs.{needs}
-use Rattle.catalogue.specs.Numbers.{grouping}
+use Rattle.catalogue.specs.Catalogue.Numbers.{grouping}
 use Rattle.catalogue.proofs.lent_row.indices_from.Statement.{statement}
 use Rattle.catalogue.proofs.lent_row.indices_from.Tie as tie
 

@@ -1,5 +1,5 @@
 -- `kind_from`: one arm for each kind.
-use Rattle.catalogue.specs.Numbers.{kindFrom, kind-rest}
+use Rattle.catalogue.specs.Catalogue.Numbers.{kindFrom, kind-rest}
 use Rattle.catalogue.proofs.lent_row.kind_from.Statement.{statement}
 use Rattle.catalogue.proofs.lent_row.kind_from.Tie as tie
 

@@ -1,6 +1,6 @@
 -- `natural_at`: the same, where it is not negative.
 use borrow.Author.Needs.{needs}
-use Rattle.catalogue.specs.Numbers.Reading.{reading}
+use Rattle.catalogue.specs.Catalogue.Numbers.Reading.{reading}
 use Rattle.catalogue.proofs.lent_row.natural_at.Statement.{statement}
 use Rattle.catalogue.proofs.lent_row.natural_at.Tie as tie
 

@@ -1,7 +1,7 @@
 -- `number_at`: a number of the constant, as wide as a value.
 use native.Mathlib.Omega.{arith}
 use borrow.Author.Needs.{needs}
-use Rattle.catalogue.specs.Numbers.Reading.{reading, row-inside}
+use Rattle.catalogue.specs.Catalogue.Numbers.Reading.{reading, row-inside}
 use Rattle.catalogue.proofs.lent_row.number_at.Statement.{statement}
 use Rattle.catalogue.proofs.lent_row.number_at.Tie as tie
 

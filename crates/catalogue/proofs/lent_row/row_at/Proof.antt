@@ -1,6 +1,6 @@
 -- `row_at`: the row's numbers say the row, field by field.
 use borrow.Author.Needs.{needs}
-use Rattle.catalogue.specs.Numbers.Taking.{naturals, row-of-fields, taken-high, taken-indices, taken-kind, taken-low, taken-settable, taken-step}
+use Rattle.catalogue.specs.Catalogue.Numbers.Taking.{naturals, row-of-fields, taken-high, taken-indices, taken-kind, taken-low, taken-settable, taken-step}
 use Rattle.catalogue.proofs.lent_row.row_at.Statement.{statement}
 use Rattle.catalogue.proofs.lent_row.row_at.Tie as tie
 

@@ -1,7 +1,7 @@
 -- `row_permits`: the three tests, over the row's numbers.
 use borrow.Author.Needs.{needs}
-use Rattle.catalogue.specs.Numbers.Permitting.{narrowing}
-use Rattle.catalogue.specs.Numbers.Taking.{naturals}
+use Rattle.catalogue.specs.Catalogue.Numbers.Permitting.{narrowing}
+use Rattle.catalogue.specs.Catalogue.Numbers.Taking.{naturals}
 use Rattle.catalogue.proofs.lent_row.row_permits.Statement.{statement}
 use Rattle.catalogue.proofs.lent_row.row_permits.Tie as tie
 

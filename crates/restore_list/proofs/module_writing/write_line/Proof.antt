@@ -1,6 +1,6 @@
 -- `write_line`: what is written into the part that is left is written into the whole.
 use borrow.Author.Needs.{needs}
-use Rattle.restore_list.specs.Writing.{lending}
+use Rattle.restore_list.specs.Writing.Line.{lending}
 use Rattle.restore_list.proofs.module_writing.write_line.Statement.{statement}
 use Rattle.restore_list.proofs.module_writing.write_line.Tie as tie
 

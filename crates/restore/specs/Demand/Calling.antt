@@ -1,0 +1,72 @@
+-- How the restore call answers: a rule for each return and each call.
+use mathlib.Core.Path.{_≡_, refl, sym, ap, _∙_}
+use mathlib.Core.Bool.{true}
+use mathlib.Core.List.{List}
+use Prim.Native.Nat.{ℕ, _≤_, _<_}
+use native.Mathlib.Omega.{arith}
+use borrow.Author.Tests.{le-leb, lt-leb}
+use lib.IntN.{ℤ}
+use lib.ListN.{length}
+use Rattle.text.specs.Written.{Wrote}
+use Rattle.wish.specs.Listing.{Admitted, allReachable, changes, listing, restoreNumber, testNumber}
+use Rattle.wish.specs.Listing.Numbers.{number-list}
+use Rattle.restore.specs.Demand.{Restores}
+use Rattle.wish.specs.Listing.Numbers.{test-admits}
+use Rattle.restore.specs.Demand.Testing.{test-refuses}
+use Rattle.restore.specs.Demand.Rules.{returns-listed, returns-refused}
+use Rattle.restore_list.specs.Measuring.{measured, measuredNumber}
+use Rattle.restore_list.specs.Measuring.Told.{number-told, within-told}
+use Rattle.restore_list.specs.Measuring.Walk.{wishOf}
+use Rattle.restore_list.specs.declared.module_measuring.Measured.{Measured}
+use Rattle.restore_list.specs.declared.module_measuring.Measured.the-variants.{Within, Beyond}
+use Rattle.restore.specs.declared.Restored.{Restored}
+use Rattle.text.specs.Written.Laws.{bytes-by}
+
+module _ (t : List ℕ) (vs : List ℤ) (selection : List ℕ) (ws : List ℤ) (buffer : List ℕ) where
+  refuses : (r : Restored) (n : ℕ) → r ≡ record { bytes = 0; lines = 0; number = n } → restoreNumber (wishOf t vs selection ws) (length buffer) ≡ n → (n ≡ 0 → ⊥)
+      → Restores (wishOf t vs selection ws) buffer r buffer
+  refuses r n e h z = rw e (returns-refused (wishOf t vs selection ws) buffer n h z)
+
+  -- ---- a list that the wish admits
+
+  module _ (a : Admitted (wishOf t vs selection ws)) (f : Measured) (g : f ≡ measured t (changes (wishOf t vs selection ws))) where
+    listed : restoreNumber (wishOf t vs selection ws) (length buffer) ≡ measuredNumber f (length buffer)
+    listed =
+        number-list (wishOf t vs selection ws) (length buffer) a
+        ∙ number-told t (changes (wishOf t vs selection ws)) (length buffer) ∙ ap (λ m. measuredNumber m (length buffer)) (sym g)
+
+    pub refuses-reach : (r : Restored) → f ≡ Beyond → r ≡ record { bytes = 0; lines = 0; number = 7 } → Restores (wishOf t vs selection ws) buffer r buffer
+    unfolding measuredNumber
+    refuses-reach r e k = refuses r 7 k (listed ∙ rw e refl) (λ z. omega arith)
+
+    module _ (bytes lines : ℕ) (e : f ≡ Within bytes lines) where
+      told : (allReachable t (changes (wishOf t vs selection ws)) ≡ true) × (bytes ≡ length (listing t (changes (wishOf t vs selection ws)))) × (lines ≡ length (changes (wishOf t vs selection ws)))
+      told = within-told t (changes (wishOf t vs selection ws)) bytes lines (sym e ∙ g)
+
+      pub refuses-room : (r : Restored) → length buffer < bytes → r ≡ record { bytes = 0; lines = 0; number = 8 } → Restores (wishOf t vs selection ws) buffer r buffer
+      unfolding measuredNumber
+      refuses-room r h k = refuses r 8 k (listed ∙ rw (e, lt-leb bytes (length buffer) h) refl) (λ z. omega arith)
+
+      pub list-room : bytes ≤ length buffer → length (listing t (changes (wishOf t vs selection ws))) ≤ length buffer
+      list-room h = omega (arith, told .1)
+
+      pub returns-list : (n : ℕ) (after : List ℕ) → bytes ≤ length buffer → Wrote buffer 0 (listing t (changes (wishOf t vs selection ws))) n after
+          → Restores (wishOf t vs selection ws) buffer (record { bytes = bytes; lines = lines; number = 0 }) after
+      unfolding measuredNumber
+      returns-list n after h w =
+          returns-listed (wishOf t vs selection ws) buffer bytes lines after (listed ∙ rw (e, le-leb bytes (length buffer) h) refl) (told .1) (told .2) (bytes-by w)
+
+  -- ---- a wish that it does not admit
+
+  module _ (n : ℕ) (e : n ≡ testNumber (wishOf t vs selection ws)) where
+    pub refuses-test : (r : Restored) → (n ≡ 0 → ⊥) → r ≡ record { bytes = 0; lines = 0; number = n } → Restores (wishOf t vs selection ws) buffer r buffer
+    refuses-test r h k = refuses r n k (test-refuses (wishOf t vs selection ws) (length buffer) (λ z. h (e ∙ z)) ∙ sym e) h
+
+-- every test was passed
+pub admits : (t : List ℕ) (vs : List ℤ) (selection : List ℕ) (ws : List ℤ) (n : ℕ) → n ≡ testNumber (wishOf t vs selection ws) → n ≡ 0
+    → Admitted (wishOf t vs selection ws)
+admits t vs selection ws n e h = test-admits (wishOf t vs selection ws) (sym e ∙ h)
+
+pub ruleset listing-call = (refuses-reach, refuses-room, list-room, returns-list)
+
+pub ruleset testing-call = (refuses-test, admits)

@@ -1,0 +1,109 @@
+-- The price of a list of changes as a potential: no line lowers it by more than its bytes and its 0D.
+use mathlib.Core.Path.{_≡_, refl, ap}
+use mathlib.Core.Bool.{Bool, true, false, cond}
+use mathlib.Core.List.{List, [], _∷_}
+use Prim.Native.Nat.{ℕ, zero, suc, _+_, _≤_, _<_}
+use native.Mathlib.Omega.{arith}
+use lib.IntN.{ℤ, pos}
+use lib.ListN.{length, getD, set, length-append}
+use Rattle.values.specs.Parameters.{parameters, place, parameterAt}
+use Rattle.values.specs.declared.parameter.Parameter.{Parameter}
+use Rattle.values.specs.declared.parameter.ParameterFound.the-variants.{At}
+use Rattle.syntax.specs.Shape.{lineLimit}
+use Rattle.line.specs.Answer.{answer}
+use Rattle.serial_port.specs.Play.Laws.{Right}
+use Rattle.wish.specs.Listing.{Change, changesOf, lineOf, listing}
+use Rattle.restore.specs.Demand.Lines.{price, Effect, nothing, puts, Lines}
+use Rattle.values.specs.Values.{equal}
+use Rattle.values.specs.Values.Laws.{equal-refl, values-many, at-inside}
+
+-- ---- a function of each value, summed
+
+unfoldable pub total : List (ℤ → ℕ) → List ℤ → ℕ
+total [] vs = 0
+total (f ∷ fs) [] = 0
+total (f ∷ fs) (v ∷ vs) = f v + total fs vs
+
+-- the price where there is none to pay
+unfoldable pub free : ℤ → ℕ
+free v = 0
+
+-- setting one value changes one summand
+total-set : (fs : List (ℤ → ℕ)) (vs : List ℤ) (k : ℕ) (x : ℤ) → k < length vs
+    → total fs vs + getD fs k free x ≡ total fs (set vs k x) + getD fs k free (getD vs k (pos 0))
+unfolding total free
+total-set [] vs k x h = refl
+total-set (f ∷ fs) [] k x h = absurd (omega arith)
+total-set (f ∷ fs) (v ∷ vs) zero x h = omega arith
+total-set (f ∷ fs) (v ∷ vs) (suc k) x h = omega (arith, total-set fs vs k x (omega arith))
+
+-- ---- the prices of the parameters ps, each to its target
+
+unfoldable pub prices : (table : List ℕ) → List Parameter → (target : List ℤ) → List (ℤ → ℕ)
+prices t [] xs = []
+prices t (p ∷ ps) [] = []
+prices t (p ∷ ps) (x ∷ xs) = price t p x ∷ prices t ps xs
+
+-- the price of a parameter, which is free where it has no target
+data Priced (t : List ℕ) (p : Parameter) (f : ℤ → ℕ) : Type 0 where
+  priced : (x : ℤ) → f ≡ price t p x → Priced t p f
+  unpriced : f ≡ free → Priced t p f
+
+price-at : (t : List ℕ) (ps : List Parameter) (xs : List ℤ) (k : ℕ) (p : Parameter) → parameterAt ps k ≡ At p
+    → Priced t p (getD (prices t ps xs) k free)
+unfolding prices parameterAt
+price-at t [] xs k p e = unpriced refl
+price-at t (q ∷ ps) [] k p e = unpriced refl
+price-at t (q ∷ ps) (x ∷ xs) zero p e = priced x (let s : q ≡ p = cc in ap (λ r. price t r x) s)
+price-at t (q ∷ ps) (x ∷ xs) (suc k) p e = price-at t ps xs k p e
+
+-- nothing is left to pay where the target is reached
+pub price-reached : (t : List ℕ) (ps : List Parameter) (xs : List ℤ) → total (prices t ps xs) xs ≡ 0
+unfolding total prices price
+price-reached t [] xs = refl
+price-reached t (p ∷ ps) [] = refl
+price-reached t (p ∷ ps) (x ∷ xs) = rw (equal-refl x) (omega (arith, price-reached t ps xs))
+
+-- the list costs what its bytes are
+pub price-listing : (t : List ℕ) (ps : List Parameter) (vs xs : List ℤ) → total (prices t ps xs) vs ≡ length (listing t (changesOf ps vs xs))
+unfolding total prices price changesOf listing lineOf
+price-listing t [] vs xs = refl
+price-listing t (p ∷ ps) [] [] = refl
+price-listing t (p ∷ ps) [] (x ∷ xs) = refl
+price-listing t (p ∷ ps) (v ∷ vs) [] = refl
+price-listing t (p ∷ ps) (v ∷ vs) (x ∷ xs) = go (equal v x) refl (price-listing t ps vs xs)
+  where
+    c : Change
+    c = record { parameter = p; present = v; target = x }
+
+    cs : List Change
+    cs = changesOf ps vs xs
+
+    go : (b : Bool) → equal v x ≡ b → total (prices t ps xs) vs ≡ length (listing t cs)
+        → price t p x v + total (prices t ps xs) vs ≡ length (listing t (cond (equal v x) cs (c ∷ cs)))
+    go true q e = rw q (omega arith)
+    go false q e = rw q (simp length-append (omega arith))
+
+-- what is left to pay on the way to the target xs
+abbrev pub potential : (table : List ℕ) → (target : List ℤ) → List ℤ → ℕ
+potential t xs vs = total (prices t (parameters t) xs) vs
+
+-- no line of any bytes lowers it by more than its bytes and its 0D
+module _ (t : List ℕ) (lines : Lines t) (xs : List ℤ) where
+  pub lowers : (vs : List ℤ) (l : List ℕ) → length l ≤ lineLimit → Right t vs → potential t xs vs ≤ length l + 1 + potential t xs (answer t vs l .values)
+  lowers vs l n r = go (lines .effect vs l)
+    where
+      fs : List (ℤ → ℕ)
+      fs = prices t (parameters t) xs
+
+      cost : (p : Parameter) (x : ℤ) → ((target : ℤ) → price t p target (getD vs (place p) (pos 0)) ≤ length l + 1 + price t p target x)
+          → Priced t p (getD fs (place p) free) → getD fs (place p) free (getD vs (place p) (pos 0)) ≤ length l + 1 + getD fs (place p) free x
+      cost p x c (priced y e) = rw e (c y)
+      cost p x c (unpriced e) = rw e (unfold free in omega arith)
+
+      go : Effect t vs l → potential t xs vs ≤ length l + 1 + potential t xs (answer t vs l .values)
+      go (nothing e) = rw e (omega arith)
+      go (puts p x s e c) =
+          let here = at-inside (parameters t) (place p) p (s .listed) in
+          let changes = total-set fs vs (place p) x (omega (arith, values-many t vs r)) in
+          rw e (omega (arith, changes, cost p x c (price-at t (parameters t) xs (place p) p (s .listed))))
