@@ -1,20 +1,30 @@
 #!/usr/bin/env python3
-"""Reads what the checker said of each must-fail edit, after `rt ci`, and asks that every wrong program in it was refused for itself.
+"""Reads what the checker said of each must-fail edit, after `rt ci`, and asks that every wrong program in it was refused for itself, at the promise.
 
 An edit holds wrong programs of functions that do not call each other. Each begins with a line '# NAME: WHAT': WHAT is the one function that it makes wrong, or the
-law, where it changes specs/. The functions that the checker refuses for themselves must be those named, no more and no fewer; those that call them are told
-apart by the checker's own words. None may be refused because the proof file no longer fits the code, as where an operation was added: then nothing is shown.
-The wrong programs are those that docs/STATEMENTS.md names.
+law, where it changes specs/. Asked is:
 
-    tests/refusals.py [ROOT]
+- the functions that the checker refuses for themselves are those named, no more and no fewer; those that call them are told apart by the checker's own words. Where
+  specs/ is changed, the laws named are among those refused;
+- each is refused at its promise: what the function ensures, or the invariant of its loop. A refusal at what a callee requires, at a side fact (an index, a sum, the bounds of a
+  part) or because the proof file no longer fits the code shows less than the edit says;
+- every function that other crates or C can call has two wrong programs of its own;
+- docs/STATEMENTS.md names each wrong program, and no other.
+
+    tests/refusals.py [--where] [ROOT]        --where also tells of each wrong program where it was refused
 """
+import collections
 import pathlib
 import re
 import sys
 
-root = pathlib.Path(sys.argv[1] if len(sys.argv) > 1 else pathlib.Path(__file__).parent.parent).resolve()
+arguments = [a for a in sys.argv[1:] if a != "--where"]
+root = pathlib.Path(arguments[0] if arguments else pathlib.Path(__file__).parent.parent).resolve()
 edits = sorted(root.glob("crates/*/must-fail/*.edit"))
 faults = []
+
+PROMISE, INVARIANT, LAW = "the promise", "the invariant", "the law"
+REQUIRES, SIDE, UNFIT = "a callee's requires", "a side fact", "an unfit proof file"
 
 
 def wrong_programs(edit):
@@ -27,35 +37,81 @@ def wrong_programs(edit):
     return {head[1]: head[2] for head in heads}
 
 
-def fault(edit, wrong):
-    """What is wrong with the refusal of an edit, or None."""
+def goal_place(need, words):
+    """Where a function with a proof file is refused, by the name of the need or by the goal that was left."""
+    if "Lts.Closed" in words or "that can be named from here" in words:
+        return UNFIT
+    goal = re.search(r"(?:no proof of|expected type) `\(*([^\s`]+)", words)
+    goal = goal[1] if goal else ""
+    if goal.endswith((".Post", ".Claims.AllOf")) or need.startswith("returns"):
+        return PROMISE
+    if goal.startswith("Inv-"):
+        return INVARIANT
+    return REQUIRES if goal.endswith(".Asked") else SIDE
+
+
+def need_place(need):
+    """Where a function without a proof file is refused, by the name of what was left."""
+    return PROMISE if need.startswith("returns") else REQUIRES if "-requires" in need else SIDE
+
+
+def refusals(edit):
+    """What the checker refused: by function or law, where. A function that only waits for another is left out."""
     log = (root / "target/must-fail" / edit.parent.parent.name / edit.stem / ".log").read_text(errors="replace")
-    errors = re.findall(r"^(\S+):\d+:\d+: error: `?([^`\s:]*)(.*)", log, re.M)
-    refused = re.findall(r"^fn \S*?(\w+): (?:not proved$|no proof: .*does not close)", log, re.M)
-    if any("Lts.Closed" in words for _, _, words in errors):
-        return "the proof file does not fit the code"
-    if "file: specs/" in edit.read_text():
-        laws = [law for place, law, words in errors if "/specs/" in place and "was not admitted" not in words]
-        return None if set(wrong) <= set(laws) else f"refused at {', '.join(laws + refused) or 'nothing'}"
-    return None if sorted(refused) == sorted(wrong) else f"refused for {', '.join(refused) or 'no function'}"
+    places = {}
+    for file, name, words in re.findall(r"^(\S+):\d+:\d+: error: `?([^`\s:]*)`?:?(.*)", log, re.M):
+        if "was not admitted" in words:
+            continue
+        if "/specs/" in file:
+            places.setdefault(name, LAW)
+        elif "/proofs/" in file:
+            places.setdefault(pathlib.Path(file).parent.name.removeprefix("+"), goal_place(name, words))
+    for function, words in re.findall(r"^fn \S*?(\w+): (not proved$|no proof: .*)", log, re.M):
+        if need := re.search(r"does not close `([\w-]+)`", words):
+            places[function] = need_place(need[1])
+        else:
+            places.setdefault(function, SIDE)
+    return places
 
 
-found = {}
+def functions(crate):
+    """The functions of a crate that other crates or C can call; a program's are its own."""
+    if (crate / "src/main.rt").exists():
+        return set()
+    return {name for file in crate.glob("src/**/*.rt") for name in re.findall(r'^\s*pub (?:extern "C" )?fn (\w+)', file.read_text(), re.M)}
+
+
+found, own = {}, collections.Counter()
 for edit in edits:
-    wrong = wrong_programs(edit)
-    found.update({(edit.parent.parent.name, name): edit for name in wrong})
-    if words := fault(edit, wrong.values()):
-        faults.append(f"{edit.relative_to(root)}: {words}")
+    wrong, crate, label = wrong_programs(edit), edit.parent.parent, str(edit.relative_to(root))
+    places = refusals(edit)
+    of_specs = "file: specs/" in edit.read_text()
+    refused = {what for what, place in places.items() if (place == LAW) == of_specs}
+    if not (set(wrong.values()) <= refused if of_specs else sorted(wrong.values()) == sorted(refused)):
+        faults.append(f"{label}: refused for {', '.join(sorted(refused)) or 'nothing'}")
+    for name, what in wrong.items():
+        place = places.get(what, "nothing")
+        found[crate.name, name] = place
+        own[crate.name, what] += place in (PROMISE, INVARIANT)
+        if place not in (PROMISE, INVARIANT, LAW):
+            faults.append(f"{label}: {name} is refused at {place}")
+        if "--where" in sys.argv:
+            print(f"{crate.name}/{edit.stem}: {name}, of {what}: {place}")
+
+for crate in sorted((root / "crates").iterdir()):
+    for function in sorted(functions(crate)):
+        if own[crate.name, function] < 2:
+            faults.append(f"{crate.name}: {function} has {own[crate.name, function]} wrong programs of its own")
 
 table = (root / "docs/STATEMENTS.md").read_text().split("## Wrong programs", 1)[1]
 told = set(re.findall(r"`([a-z]\w*)`", re.sub(r"^\| [^|]*\|", "", table, flags=re.M)))
 for crate, name in found:
     if name not in told:
         faults.append(f"{crate}: {name} is not in docs/STATEMENTS.md")
-for name in told - {name for _, name in found} - {crate for crate, _ in found}:
+for name in told - {name for _, name in found}:
     faults.append(f"docs/STATEMENTS.md: {name} is no wrong program")
 
 for words in faults:
     print(f"FAILED: {words}")
-print(f"refusals: {len(found)} wrong programs in {len(edits)} edits; {len(faults)} faults")
+print(f"refusals: {len(found)} wrong programs in {len(edits)} edits, each at its promise; {len(faults)} faults" if not faults else f"refusals: {len(faults)} faults")
 sys.exit(bool(faults) or not edits)

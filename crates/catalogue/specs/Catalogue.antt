@@ -1,4 +1,5 @@
 -- The catalogue: the fifty parameters of the six module types. Within a type they rise by index 1, and where it is the same by index 2.
+pub mod Counted
 pub mod Distinct
 pub mod Each
 pub mod Fits
@@ -6,11 +7,13 @@ pub mod Laws
 pub mod Numbers
 pub mod Rules
 pub mod Sized
+pub mod Starts
 use mathlib.Core.Bool.{Bool, true, false, cond, _&&_}
 use mathlib.Core.List.{List, [], _∷_, map}
 use Prim.Native.Nat.{ℕ, suc}
 use lib.Dec.{eqb, leb, ltb}
 use lib.IntN.{ℤ, pos, negsuc, negℤ}
+use lib.ListN.{getD}
 use Rattle.catalogue.specs.declared.row.Indices.{Indices}
 use Rattle.catalogue.specs.declared.row.Indices.the-variants.{OneGroup, TwoGroups}
 use Rattle.catalogue.specs.declared.row.Kind.{Kind}
@@ -114,6 +117,22 @@ rowsBefore owner (e ∷ es) = cond (ltb (e .owner) owner) (suc (rowsBefore owner
 
 unfoldable pub firstRow : ℕ → ℕ
 firstRow owner = rowsBefore owner catalogue
+
+-- ---- an entry and a row by their numbers
+
+-- no entry: what stands past the catalogue's end
+unfoldable pub noEntry : Entry
+noEntry = switch 0 (OneGroup 0) false
+
+unfoldable pub noRow : Row
+noRow = noEntry .row
+
+unfoldable pub entryAt : ℕ → Entry
+entryAt n = getD catalogue n noEntry
+
+-- row `number` of a module type
+unfoldable pub rowOf : ℕ → ℕ → Row
+rowOf kind number = getD (rowsOf kind) number noRow
 
 -- ---- the catalogue as the constant's numbers
 

@@ -10,8 +10,7 @@ ghost use lib.Dec.{T};
 ghost use lib.IntN.{natAbs};
 ghost use lib.ListN.{length};
 ghost use lib.Signed.{nonNeg};
-ghost use Rattle.catalogue.specs.Catalogue.{catalogue, known, numbers, rowsOf};
-ghost use Rattle.catalogue.specs.Catalogue.Rules.{entryAt, rowOf};
+ghost use Rattle.catalogue.specs.Catalogue.{catalogue, entryAt, known, numbers, rowOf, rowsOf};
 ghost use Rattle.catalogue.specs.Catalogue.Numbers.{columnAt, indicesFrom, kindFrom};
 ghost use Rattle.catalogue.specs.Row.{permitted};
 

@@ -1,7 +1,6 @@
 // A row of the catalogue: what it says of a parameter, when two have the same indices, and which values it permits.
 ghost use mathlib.Core.Path.{_≡_};
-ghost use Rattle.catalogue.specs.Row.{permitted, sameIndices, start};
-ghost use Rattle.catalogue.specs.Row.Laws.{RowFits};
+ghost use Rattle.catalogue.specs.Row.{RowFits, permitted, sameIndices, start};
 
 // The index groups of a row: a missing second group is not a second index 0.
 pub enum Indices {

@@ -13,7 +13,8 @@ use Rattle.room.specs.declared.table.Module.{Module}
 use Rattle.values.specs.declared.parameter.Parameter.{Parameter}
 use Rattle.values.specs.declared.parameter.ParameterFound.{ParameterFound}
 use Rattle.values.specs.declared.parameter.ParameterFound.the-variants.{At, Nothing}
-use Rattle.syntax.specs.Shape.{shape, part}
+use Rattle.text.specs.Cut.{part}
+use Rattle.syntax.specs.Shape.{shape}
 use Rattle.syntax.specs.IndexPart.{readIndices}
 use Rattle.syntax.specs.Value.{readValue}
 use Rattle.syntax.specs.declared.shape.Shape.{Shape}

@@ -1,5 +1,4 @@
 -- The set line that is written, read as a line: it says what was meant, and no line that says the same is shorter.
-pub mod Bytes
 pub mod Indices
 pub mod Laws
 pub mod Naming

@@ -1,5 +1,5 @@
 -- The answer to a get line reads back: with `SA` for its `GA` and without its 0D it is a set line that names the same parameter and says its value.
-use mathlib.Core.Path.{_≡_, refl, sym}
+use mathlib.Core.Path.{_≡_, refl, sym, _∙_}
 use mathlib.Core.Bool.{true}
 use mathlib.Core.List.{List, [], _∷_, _++_, append-assoc}
 use Prim.Native.Nat.{ℕ, _+_, _-_, _≤_}
@@ -9,8 +9,7 @@ use lib.ListN.{length, getD, take, drop, length-append}
 use lib.Seq.{take-at}
 use Rattle.text.specs.Cut.{indexOf}
 use Rattle.text.specs.Cut.Lacking.{index-joined}
-use Rattle.text.specs.Digits.{isDigit}
-use Rattle.text.specs.Byte.Values.{valueByte}
+use Rattle.text.specs.Byte.Values.{return-other}
 use Rattle.room.specs.Label.{label, bearer}
 use Rattle.values.specs.Parameters.{parameters, parameterAt, place}
 use Rattle.catalogue.specs.Row.{permitted}
@@ -20,12 +19,13 @@ use Rattle.room.specs.declared.label.Bearer.the-variants.{Only}
 use Rattle.values.specs.declared.parameter.Parameter.{Parameter}
 use Rattle.values.specs.declared.parameter.ParameterFound.the-variants.{At}
 use Rattle.syntax.specs.Value.{readKind}
-use Rattle.line.specs.Said.Texts.{reply-back, reply-short, reply-lacks}
+use Rattle.line.specs.Said.Texts.{reply-back}
 use Rattle.line.specs.Meaning.{meaning}
 use Rattle.line.specs.Meaning.Laws.{puts-back}
-use Rattle.spelling.specs.Name.{name}
 use Rattle.spelling.specs.Reply.{getReply}
+use Rattle.spelling.specs.Reply.Laws.{get-spelled}
 use Rattle.spelling.specs.Text.{replyText}
+use Rattle.spelling.specs.Text.Laws.{reply-lacks, reply-short}
 use Rattle.line.specs.Said.Naming.{Reached, reached, naming, Parts, parts-put, reached-sized, naming-short, naming-parts, rest, naming-rest, rest-no-return, verb-no-return}
 use Rattle.syntax.specs.declared.value_text.ValueText.the-variants.{Value}
 use Rattle.line.specs.declared.meaning.Meaning.the-variants.{Put}
@@ -35,8 +35,8 @@ unfoldable pub asSetLine : List ℕ → List ℕ
 asSetLine reply = 0x53 ∷ 0x41 ∷ take (length reply - 3) (drop 2 reply)
 
 reply-rest : (t : List ℕ) (p : Parameter) (v : ℤ) → getReply t p v ≡ 0x47 ∷ 0x41 ∷ (rest t p (replyText (p .row .kind) v) ++ (0x0D ∷ []))
-unfolding getReply name rest
-reply-rest t p v = simp append-assoc
+unfolding rest
+reply-rest t p v = get-spelled t p v ∙ simp append-assoc
 
 pub reply-naming : (t : List ℕ) (p : Parameter) (v : ℤ) → asSetLine (getReply t p v) ≡ naming t p (replyText (p .row .kind) v)
 unfolding asSetLine
@@ -58,8 +58,7 @@ pub record Told (t : List ℕ) (p : Parameter) (v : ℤ) (reply : List ℕ) : Ty
   pub says : (present : ℤ) → readKind (p .row .kind) present (replyText (p .row .kind) v) ≡ Value v
 
 no-return : (k : Kind) (v : ℤ) → indexOf 0x0D (replyText k v) ≡ length (replyText k v)
-unfolding valueByte isDigit
-no-return k v = reply-lacks 0x0D k v refl
+no-return k v = reply-lacks 0x0D k v return-other
 
 reply-ends : (t : List ℕ) (p : Parameter) (v : ℤ) → Reached t p → indexOf 0x0D (getReply t p v) + 1 ≡ length (getReply t p v)
 reply-ends t p v r =
@@ -70,8 +69,7 @@ reply-ends t p v r =
     rw (reply-rest t p v, index-joined 0x0D u [] h) (simp length-append (omega arith))
 
 reply-verb : (t : List ℕ) (p : Parameter) (v : ℤ) → take 2 (getReply t p v) ≡ 0x47 ∷ 0x41 ∷ []
-unfolding getReply
-reply-verb t p v = refl
+reply-verb t p v = rw (get-spelled t p v)
 
 reached-told : (t : List ℕ) (p : Parameter) (v : ℤ) → Reached t p → permitted (p .row) v ≡ true → Told t p v (getReply t p v)
 reached-told t p v r h =

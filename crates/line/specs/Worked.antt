@@ -8,7 +8,7 @@ use Prim.Native.String as string
 use Prim.Native.String.{String}
 use lib.IntN.{ℤ, pos, negℤ}
 use lib.ListN.{replicate, set}
-use Rattle.text.specs.Cut.{indexOf, has, before, after}
+use Rattle.text.specs.Cut.{indexOf, has, before, after, firstFrom, part}
 use Rattle.text.specs.Digits.{isDigit, allDigits, readOn, numberOf, digitsWithin, digits}
 use Rattle.text.specs.Level.{signed, levelTenth, levelPoint, levelMore, levelWhole, readLevel}
 use Rattle.text.specs.Number.{numberForm, readNumber}
@@ -19,7 +19,7 @@ use Rattle.room.specs.Table.{recordLimit, modulesFrom, modules}
 use Rattle.record.specs.Body.{bodyLength}
 use Rattle.room.specs.Label.{label, same, bearersIn, exactlyOne, bearer}
 use Rattle.values.specs.Parameters.{numbered, parametersOf, place, withIndices, named}
-use Rattle.syntax.specs.Shape.{lineLimit, isSet, isGet, opening, firstFrom, closing, equals, getShape, setShape, quoted, shape, part}
+use Rattle.syntax.specs.Shape.{lineLimit, isSet, isGet, opening, closing, equals, getShape, setShape, quoted, shape}
 use Rattle.syntax.specs.IndexPart.{oneGroup, twoGroups, groups, readIndices}
 use Rattle.syntax.specs.Value.{ofLevel, ofNumber, ofSwitch, readKind, onlyPermitted, readValue}
 use Rattle.line.specs.Meaning.{indexed, inModule, inRoom, putOf, getOf, setOf, ofShape, meaning}

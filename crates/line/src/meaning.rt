@@ -24,7 +24,7 @@ ghost use Rattle.values.specs.Values.{valuesSound};
 ghost use Rattle.syntax.specs.IndexPart.{readIndices};
 ghost use Rattle.line.specs.Meaning.{getOf, inRoom, indexed, meaning, ofShape, putOf};
 ghost use Rattle.line.specs.Meaning.Reading.{Holds, aim};
-ghost use Rattle.syntax.specs.Shape.{part};
+ghost use Rattle.text.specs.Cut.{part};
 ghost use Rattle.syntax.specs.Value.{readValue};
 ghost use Rattle.syntax.specs.declared.shape.Shape.the-variants as shape;
 

@@ -4,7 +4,7 @@ pub mod Lending
 use mathlib.Core.List.{List}
 use Prim.Native.Nat.{ℕ, _+_}
 use denote.Ref.{RefT, ptr, now}
-use Rattle.syntax.specs.Shape.{part}
+use Rattle.text.specs.Cut.{part}
 use Rattle.log.specs.declared.part.LogPart.{LogPart}
 use Rattle.log.specs.declared.part.LogPart.the-variants.{Table, Line, Nothing}
 use Rattle.log.specs.LogPart.{logPart}

@@ -5,12 +5,11 @@ use mathlib.Core.List.{List}
 use Prim.Native.Nat.{ℕ, _+_, _-_}
 use lib.Dec.{ltb}
 use lib.ListN.{length}
-use Rattle.text.specs.Cut.{indexOf}
+use Rattle.text.specs.Cut.{indexOf, firstFrom, part}
 use Rattle.room.specs.Label.{bearer}
 use Rattle.room.specs.Table.{sound}
 use Rattle.room.specs.declared.label.Bearer.{Bearer}
 use Rattle.room.specs.declared.label.Bearer.the-variants.{Only, NotOne}
-use Rattle.syntax.specs.Shape.{firstFrom, part}
 use Rattle.log.specs.declared.part.LogPart.{LogPart}
 use Rattle.log.specs.declared.part.LogPart.the-variants.{Table, Line, Nothing}
 

@@ -7,10 +7,10 @@ ghost use mathlib.Core.Bool.{true};
 ghost use mathlib.Core.Path.{_≡_};
 ghost use Prim.Native.Nat.{_≤_};
 ghost use lib.ListN.{length};
+ghost use Rattle.text.specs.Cut.{part};
 ghost use Rattle.room.specs.Label.{bearer};
 ghost use Rattle.room.specs.Table.{sound};
 ghost use Rattle.log.specs.LogPart.{logPart, shown};
-ghost use Rattle.syntax.specs.Shape.{part};
 
 // A part of the table or of the line, from a start to an end, or the empty part at the line's start.
 pub enum LogPart {

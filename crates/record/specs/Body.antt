@@ -1,4 +1,5 @@
 -- The body of a record: how long it is, and when it is sound, by its kind.
+pub mod Laws
 pub mod Rules
 use mathlib.Core.Bool.{Bool, _&&_}
 use mathlib.Core.List.{List}

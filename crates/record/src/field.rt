@@ -62,7 +62,7 @@ fn label_run(field: &[u8]) -> usize
 }
 
 // Whether a field holds a label and then zero bytes.
-pub(crate) fn field_sound(field: &[u8]) -> bool
+pub fn field_sound(field: &[u8]) -> bool
     ensures { λ r. ⌜ r ≡ fieldSound (now (field .entry)) ⌝ }
 {
     let end = label_run(field);

@@ -120,8 +120,9 @@ impl Port {
             };
         }
         let sent = port.finish(table, rows, values, reply);
+        let next = Port::fresh();
         Called {
-            port: Port::fresh(),
+            port: next,
             consumed: end + 1,
             sent: sent,
             number: 0,

@@ -1,4 +1,5 @@
 -- The replies that tell no value: ACK, and NAK with a code.
+pub mod Laws
 pub mod Writing
 use mathlib.Core.List.{List, [], _∷_}
 use Prim.Native.Nat.{ℕ, _+_, _/_, _%_}

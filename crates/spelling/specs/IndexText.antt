@@ -1,4 +1,5 @@
 -- The indices of a row as a line writes them.
+pub mod Laws
 pub mod Length
 pub mod Writing
 use mathlib.Core.List.{List, _∷_, _++_}

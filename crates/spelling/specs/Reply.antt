@@ -1,4 +1,5 @@
 -- The answer to a get line.
+pub mod Laws
 pub mod Writing
 use mathlib.Core.List.{List, [], _∷_, _++_}
 use Prim.Native.Nat.{ℕ}

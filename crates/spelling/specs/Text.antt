@@ -1,4 +1,5 @@
 -- A value's text, by its kind: in a set line, and in a reply.
+pub mod Laws
 pub mod Length
 pub mod Writing
 use mathlib.Core.List.{List}

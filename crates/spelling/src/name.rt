@@ -10,8 +10,8 @@ ghost use Prim.Native.Nat.{_+_, _≤_};
 ghost use lib.ListN.{length};
 ghost use Rattle.text.specs.Written.{Wrote};
 ghost use Rattle.room.specs.Label.{label};
-ghost use Rattle.spelling.specs.Name.{name};
-ghost use Rattle.spelling.specs.Name.Writing.{front, quotedText};
+ghost use Rattle.spelling.specs.Name.{front, name};
+ghost use Rattle.spelling.specs.Name.Writing.{quotedText};
 
 // How long the name of a parameter is, whose label is `size` bytes long.
 pub(crate) fn name_length(table: &[u8], p: Parameter, size: usize) -> usize

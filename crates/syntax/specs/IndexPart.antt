@@ -1,4 +1,5 @@
 -- The index part: a `>` with one to three digits, once or twice.
+pub mod Laws
 pub mod Reading
 use mathlib.Core.Bool.{cond}
 use mathlib.Core.List.{List, [], _∷_}

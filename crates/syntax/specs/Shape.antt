@@ -4,10 +4,10 @@ pub mod Quotes
 pub mod Reading
 use mathlib.Core.Bool.{Bool, cond}
 use mathlib.Core.List.{List, [], _∷_}
-use Prim.Native.Nat.{ℕ, _+_, _-_}
+use Prim.Native.Nat.{ℕ, _+_}
 use lib.Dec.{eqb, ltb}
-use lib.ListN.{length, getD, take, drop}
-use Rattle.text.specs.Cut.{indexOf}
+use lib.ListN.{length, getD, take}
+use Rattle.text.specs.Cut.{firstFrom}
 use Rattle.room.specs.Label.{same}
 use Rattle.syntax.specs.declared.shape.Shape.{Shape}
 use Rattle.syntax.specs.declared.shape.Shape.the-variants.{Malformed, Get, Set}
@@ -26,10 +26,6 @@ isGet line = same (take 2 line) (0x47 ∷ 0x41 ∷ [])
 -- where the opening quote should stand: behind the verb, or behind one space after it
 unfoldable pub opening : List ℕ → ℕ
 opening line = cond (eqb (getD line 2 0) 0x20) 3 2
-
--- where the first byte b from place `from` on stands; where there is none, the line's length, or `from` where that lies past it
-unfoldable pub firstFrom : ℕ → ℕ → List ℕ → ℕ
-firstFrom b from line = from + indexOf b (drop from line)
 
 -- the next quote after the opening one
 unfoldable pub closing : List ℕ → ℕ
@@ -57,7 +53,3 @@ shape line =
     cond (ltb lineLimit (length line)) Malformed
     (cond (isSet line) (quoted line (setShape line))
     (cond (isGet line) (quoted line (getShape line)) Malformed))
-
--- the bytes from place a up to place e
-unfoldable pub part : List ℕ → ℕ → ℕ → List ℕ
-part line a e = take (e - a) (drop a line)

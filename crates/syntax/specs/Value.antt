@@ -1,6 +1,7 @@
 -- The value text of a set line, by the kind of its row.
 pub mod Laws
 pub mod Reading
+pub mod Says
 use mathlib.Core.Bool.{cond}
 use mathlib.Core.List.{List}
 use lib.IntN.{ℤ, pos, _-ℤ_}

@@ -3,7 +3,8 @@ use text::cut::find;
 ghost use mathlib.Core.Path.{_≡_};
 ghost use Prim.Native.Nat.{_<_, _≤_};
 ghost use lib.ListN.{length};
-ghost use Rattle.syntax.specs.Shape.{firstFrom, getShape, opening, quoted, setShape, shape};
+ghost use Rattle.text.specs.Cut.{firstFrom};
+ghost use Rattle.syntax.specs.Shape.{getShape, opening, quoted, setShape, shape};
 ghost use Rattle.syntax.specs.Shape.Quotes.{quotes};
 
 // The parts of a line by their places: the opening and the closing quote and, in a set line, the `=`.

@@ -15,8 +15,7 @@ ghost use lib.Signed.{mag};
 ghost use Rattle.text.specs.Level.{readLevel};
 ghost use Rattle.text.specs.Number.{readNumber};
 ghost use Rattle.text.specs.Switch.{readSwitch};
-ghost use Rattle.catalogue.specs.Row.{permitted};
-ghost use Rattle.catalogue.specs.Row.Laws.{RowFits};
+ghost use Rattle.catalogue.specs.Row.{RowFits, permitted};
 ghost use Rattle.syntax.specs.Value.{ofLevel, ofNumber, ofSwitch, readKind, readValue};
 
 pub enum ValueText {

@@ -1,4 +1,5 @@
 -- Bytes among the numbers.
+pub mod Laws
 pub mod Values
 use mathlib.Core.Bool.{Bool}
 use Prim.Native.Nat.{ℕ}

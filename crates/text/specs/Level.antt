@@ -1,6 +1,7 @@
 -- Level texts, in tenths of a dB: how one is read, from the left, and how one is written.
 pub mod Examples
 pub mod Laws
+pub mod Length
 pub mod Measuring
 pub mod Reading
 pub mod Sign

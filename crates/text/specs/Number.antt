@@ -1,4 +1,5 @@
 -- Number texts: one or more decimal digits, up to a given width, leading zeros allowed.
+pub mod Bytes
 pub mod Examples
 pub mod Laws
 pub mod Passed

@@ -1,5 +1,6 @@
 -- Parameters: the rows of each module in turn, in the order of the table.
 pub mod Each
+pub mod First
 pub mod Laws
 pub mod Named
 pub mod Places

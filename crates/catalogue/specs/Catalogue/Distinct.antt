@@ -3,9 +3,9 @@ use mathlib.Core.Path.{_≡_, refl, sym, _∙_}
 use mathlib.Core.Bool.{Bool, true, false, cond, not}
 use mathlib.Core.List.{List, [], _∷_}
 use Prim.Native.Nat.{ℕ}
-use borrow.Author.Tests.{eq-eqb, eqb-true}
+use borrow.Author.Tests.{eq-eqb, eqb-true, not-true}
 use lib.Dec.{eqb}
-use Rattle.text.specs.Every.Laws.{both-left, both-right}
+use Rattle.text.specs.Every.Laws.{pairs-both, pairs-more, pairs-nil}
 use Rattle.text.specs.Every.{every, pairs}
 use Rattle.catalogue.specs.Catalogue.{Entry, catalogue, rowsIn, rowsOf}
 use Rattle.catalogue.specs.Catalogue.Each.{rows-tested}
@@ -17,22 +17,27 @@ use Rattle.catalogue.specs.declared.row.Row.{Row}
 unfoldable pub rowsDiffer : Row → Row → Bool
 rowsDiffer r s = not (sameIndices (r .indices) (s .indices))
 
+-- so the test of their indices fails
+pub differ-indices : (r s : Row) → rowsDiffer r s ≡ true → sameIndices (r .indices) (s .indices) ≡ false
+unfolding rowsDiffer
+differ-indices r s h = not-true (sameIndices (r .indices) (s .indices)) h
+
 differ-rows : (owner : ℕ) (e f : Entry) → e .owner ≡ owner → f .owner ≡ owner → differ e f ≡ true → rowsDiffer (e .row) (f .row) ≡ true
 unfolding differ rowsDiffer
 differ-rows owner e f p q h = rw (eq-eqb (e .owner) (f .owner) (p ∙ sym q)) at h
 
 pub distinct-rows : (owner : ℕ) (es : List Entry) → pairs differ es ≡ true → pairs rowsDiffer (rowsIn owner es) ≡ true
-unfolding pairs rowsIn
-distinct-rows owner [] h = refl
+unfolding rowsIn
+distinct-rows owner [] h = pairs-nil rowsDiffer
 distinct-rows owner (e ∷ es) h =
-    go (eqb (e .owner) owner) refl (both-left (every (differ e) es) (pairs differ es) h)
-    (distinct-rows owner es (both-right (every (differ e) es) (pairs differ es) h))
+    let k = pairs-both differ e es h in
+    go (eqb (e .owner) owner) refl (k .0) (distinct-rows owner es (k .1))
   where
     go : (b : Bool) → eqb (e .owner) owner ≡ b → every (differ e) es ≡ true → pairs rowsDiffer (rowsIn owner es) ≡ true
         → pairs rowsDiffer (cond b (e .row ∷ rowsIn owner es) (rowsIn owner es)) ≡ true
     go true s p q =
         let o = eqb-true (e .owner) owner s in
-        rw (rows-tested (differ e) owner (rowsDiffer (e .row)) (λ f. differ-rows owner e f o) es p) q
+        pairs-more rowsDiffer (e .row) (rowsIn owner es) (rows-tested (differ e) owner (rowsDiffer (e .row)) (λ f. differ-rows owner e f o) es p) q
     go false s p q = q
 
 pub type-distinct : (owner : ℕ) → pairs rowsDiffer (rowsOf owner) ≡ true

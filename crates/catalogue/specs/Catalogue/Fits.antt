@@ -8,10 +8,9 @@ use lib.ListN.{length}
 use lib.Signed.{mag}
 use Rattle.text.specs.Every.Laws.{both-left, both-right, every-at}
 use Rattle.text.specs.Every.{every}
-use Rattle.catalogue.specs.Catalogue.{catalogue, level, minus, number, switch}
+use Rattle.catalogue.specs.Catalogue.{catalogue, entryAt, level, minus, noEntry, number, switch}
 use Rattle.catalogue.specs.Catalogue.Each.{entryTest}
-use Rattle.catalogue.specs.Catalogue.Rules.{entryAt, noEntry}
-use Rattle.catalogue.specs.Row.Laws.{RowFits}
+use Rattle.catalogue.specs.Row.{RowFits}
 use Rattle.catalogue.specs.declared.row.Row.{Row}
 
 unfoldable pub fits : Row → Bool

@@ -1,18 +1,18 @@
 -- Laws of the catalogue: the module types are the six, and each type's rows are a run of the catalogue.
 use mathlib.Core.Path.{_≡_, refl, ap, sym, _∙_}
-use mathlib.Core.Bool.{true}
-use mathlib.Core.List.{List, map}
+use mathlib.Core.Bool.{true, false}
+use mathlib.Core.List.{List, _∷_, map}
 use Prim.Native.Nat.{ℕ, zero, suc, _+_, _≤_, _<_}
+use native.Mathlib.Numerals.{add-one}
 use native.Mathlib.Omega.{arith}
-use borrow.Author.Tests.{leb-true}
+use borrow.Author.Tests.{leb-true, le-leb, lt-leb}
 use lib.Dec.{leb, lit≤}
 use lib.ListN.{length, getD, take, drop, List·getD-map}
-use lib.Seq.{getD-take, getD-drop}
+use lib.Seq.{drop-cons, getD-take, getD-drop}
 use mir.Syntax.{w64}
 use mir.Val.{Fits}
 use Rattle.text.specs.Every.Laws.{both-left, both-right}
-use Rattle.catalogue.specs.Catalogue.{Entry, catalogue, firstRow, known, level, minus, number, rowsBefore, rowsIn, rowsOf, switch}
-use Rattle.catalogue.specs.Catalogue.Rules.{entryAt, noEntry, noRow, rowOf}
+use Rattle.catalogue.specs.Catalogue.{Entry, catalogue, entryAt, firstRow, known, level, minus, noEntry, noRow, number, rowOf, rowsBefore, rowsIn, rowsOf, switch}
 use Rattle.catalogue.specs.declared.row.Row.{Row}
 
 -- the bounds of a module type
@@ -24,6 +24,15 @@ pub known-bounds : (kind : ℕ) → known kind ≡ true → Known kind
 unfolding known
 known-bounds kind e =
     record { least = leb-true 1 kind (both-left (leb 1 kind) (leb kind 6) e); most = leb-true kind 6 (both-right (leb 1 kind) (leb kind 6) e) }
+
+-- the test of a number, as code makes it: at least 1, and then at most 6
+pub kind-low : (kind : ℕ) → kind < 1 → false ≡ known kind
+unfolding known
+kind-low kind l = rw (lt-leb 1 kind l)
+
+pub kind-high : (kind : ℕ) → 1 ≤ kind → leb kind 6 ≡ known kind
+unfolding known
+kind-high kind l = rw (le-leb 1 kind l)
 
 -- what holds of each of the six holds of every module type
 pub each-type : (P : ℕ → Type 0) → P 1 → P 2 → P 3 → P 4 → P 5 → P 6 → (kind : ℕ) → known kind ≡ true → P kind
@@ -64,7 +73,24 @@ pub rows-few : (kind : ℕ) → known kind ≡ true → length (rowsOf kind) ≤
 unfolding rowsOf rowsIn catalogue level switch number minus
 rows-few = each-type (λ k. length (rowsOf k) ≤ 33) (lit≤ tt) (lit≤ tt) (lit≤ tt) (lit≤ tt) (lit≤ tt) (lit≤ tt)
 
--- row `number` of a module type
+-- ---- a row by its number among the rows of its type
+
+at-any : (l : List Row) (n : ℕ) (d e : Row) → n < length l → getD l n d ≡ getD l n e
+at-any l n d e h =
+    let p = drop-cons l n d h in
+    let q = drop-cons l n e h in
+    cc
+
+pub rows-at : (kind n : ℕ) (d : Row) → n < length (rowsOf kind) → getD (rowsOf kind) n d ≡ rowOf kind n
+unfolding rowOf
+rows-at kind n d h = at-any (rowsOf kind) n d noRow h
+
+-- the rows from a number on: that row, and those from the next on
+pub rows-from : (kind n : ℕ) → n < length (rowsOf kind) → drop n (rowsOf kind) ≡ rowOf kind n ∷ drop (n + 1) (rowsOf kind)
+unfolding rowOf
+rows-from kind n h = rw add-one (drop-cons (rowsOf kind) n noRow h)
+
+-- it stands in the run of its type
 pub in-run : (kind n : ℕ) → known kind ≡ true → n < length (rowsOf kind) → rowOf kind n ≡ entryAt (firstRow kind + n) .row
 unfolding rowOf noRow entryAt
 in-run kind n k h =

@@ -16,8 +16,7 @@ use lib.Signed.{ltZ, nonNeg}
 use mir.Facts.{fits-natAbs, toZ-ofZ}
 use mir.Syntax.{w64}
 use mir.Val.{Fits, SFits, ofZ, toZ}
-use Rattle.catalogue.specs.Catalogue.{Entry, catalogue, columns, firstNumber, kindNumber, numbers, secondNumber}
-use Rattle.catalogue.specs.Catalogue.Rules.{entryAt, noEntry}
+use Rattle.catalogue.specs.Catalogue.{Entry, catalogue, columns, entryAt, firstNumber, kindNumber, noEntry, numbers, secondNumber}
 use Rattle.catalogue.specs.declared.row.Indices.{Indices}
 use Rattle.catalogue.specs.declared.row.Indices.the-variants.{OneGroup, TwoGroups}
 use Rattle.catalogue.specs.declared.row.Kind.{Kind}

@@ -1,33 +1,18 @@
 -- What the whole catalogue obeys, each rule by one test over the table: every low is under its high, every span is whole steps,
 -- rows rise by type, index 1 and index 2, and within a type all indices differ.
 use mathlib.Core.Path.{_≡_, refl}
-use mathlib.Core.Bool.{Bool, true, false, not, _&&_, _||_}
+use mathlib.Core.Bool.{Bool, true, not, _&&_, _||_}
 use Prim.Native.Nat.{ℕ, _%_, _<_}
 use borrow.Author.Tests.{eqb-true, ltb-true}
 use lib.Dec.{eqb, ltb}
 use lib.IntN.{natAbs, _-ℤ_}
-use lib.ListN.{getD, length}
+use lib.ListN.{length}
 use lib.Signed.{ltZ}
 use Rattle.text.specs.Every.Laws.{both-left, both-right, every-at, pairs-at}
 use Rattle.text.specs.Every.{every, pairs}
-use Rattle.catalogue.specs.Catalogue.{Entry, catalogue, firstNumber, level, minus, number, rowsOf, secondNumber, switch}
+use Rattle.catalogue.specs.Catalogue.{Entry, catalogue, entryAt, firstNumber, level, minus, noEntry, number, secondNumber, switch}
 use Rattle.catalogue.specs.Row.{sameIndices}
-use Rattle.catalogue.specs.declared.row.Indices.the-variants.{OneGroup}
 use Rattle.catalogue.specs.declared.row.Row.{Row}
-
--- no entry: what stands past the catalogue's end
-unfoldable pub noEntry : Entry
-noEntry = switch 0 (OneGroup 0) false
-
-unfoldable pub noRow : Row
-noRow = noEntry .row
-
-unfoldable pub entryAt : ℕ → Entry
-entryAt n = getD catalogue n noEntry
-
--- row `number` of a module type
-unfoldable pub rowOf : ℕ → ℕ → Row
-rowOf kind number = getD (rowsOf kind) number noRow
 
 -- low is below high, and the step divides the span
 unfoldable pub rowRight : Row → Bool

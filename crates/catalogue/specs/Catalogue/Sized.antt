@@ -1,4 +1,5 @@
 -- How large a row's indices and values are: small enough for their texts.
+pub mod Groups
 use mathlib.Core.Path.{_≡_, refl}
 use mathlib.Core.Bool.{Bool, true, false, _&&_}
 use Prim.Native.Nat.{ℕ, zero, suc, _%_, _≤_, _<_}
@@ -10,7 +11,7 @@ use lib.Signed.{leZ}
 use Rattle.text.specs.Every.Laws.{both-left, both-right, never}
 use Rattle.text.specs.Every.{every}
 use Rattle.catalogue.specs.Catalogue.{catalogue, level as level′, minus, number as number′, rowsOf, switch as switch′}
-use Rattle.catalogue.specs.Catalogue.Each.{entryTest, every-type}
+use Rattle.catalogue.specs.Catalogue.Each.{entryTest, type-tested}
 use Rattle.catalogue.specs.Row.{permitted}
 use Rattle.catalogue.specs.declared.row.Indices.{Indices}
 use Rattle.catalogue.specs.declared.row.Indices.the-variants.{OneGroup, TwoGroups}
@@ -40,8 +41,7 @@ unfolding every sizedRow sizedIndices sizedBounds catalogue level′ switch′ n
 catalogue-sized = refl
 
 pub type-sized : (owner : ℕ) → every sizedRow (rowsOf owner) ≡ true
-unfolding rowsOf
-type-sized owner = every-type sizedRow owner catalogue catalogue-sized
+type-sized owner = type-tested sizedRow owner catalogue-sized
 
 -- ---- the values that such a row permits
 

@@ -1,6 +1,6 @@
 -- Laws of permitted values, and the rules for the code that tests one.
 use mathlib.Core.Path.{_≡_, refl, sym, _∙_}
-use mathlib.Core.Bool.{Bool, true, false, and-false}
+use mathlib.Core.Bool.{Bool, true, false, cond, and-false}
 use Prim.Native.Nat.{ℕ, zero, suc, _+_, _-_, _%_, _^_, _<_, _≤_}
 use native.Mathlib.Omega.{arith}
 use borrow.Author.Tests.{le-leb, lt-leb, le-ltb, ltb-false, ltb-true, leb-true}
@@ -10,14 +10,8 @@ use lib.Signed.{leZ, ltZ, mag, nonNeg}
 use mir.Facts.{fits-natAbs, toZ-ofZ}
 use mir.Syntax.{w64}
 use mir.Val.{Fits, SFits, ofZ, toZ}
-use Rattle.catalogue.specs.Row.{permitted, start}
+use Rattle.catalogue.specs.Row.{RowFits, permitted, start}
 use Rattle.catalogue.specs.declared.row.Row.{Row}
-
--- bounds in which a row's arithmetic stays within 64 bits
-pub record RowFits (r : Row) : Type 0 where
-  pub low-fits : mag (r .low) < 2 ^ 62
-  pub high-fits : mag (r .high) < 2 ^ 62
-  pub positive : 0 < r .step
 
 -- ---- the order of signed numbers, tested one way and the other
 
@@ -116,5 +110,14 @@ starts-zero r t e h = rw (sym e ∙ h)
 pub starts-low : (r : Row) (t : Bool) → RowFits r → t ≡ permitted r (pos 0) → t ≡ false → bits (r .low) ≡ start r
 unfolding start
 starts-low r t fit e h = rw (sym e ∙ h) (value-bits (r .low) (fit .low-fits))
+
+-- a start value is a number of the machine
+pub start-fits : (r : Row) → RowFits r → SFits w64 (start r)
+unfolding start
+start-fits r f = go (permitted r (pos 0))
+  where
+    go : (b : Bool) → SFits w64 (cond b (pos 0) (r .low))
+    go true = record { sfits = omega arith }
+    go false = record { sfits = omega (arith, f .low-fits) }
 
 pub ruleset starting = (starts-zero, starts-low)

@@ -14,7 +14,7 @@ use Rattle.values.specs.Values.Laws.{set-sound}
 use Rattle.room.specs.declared.label.Bearer.the-variants.{Only}
 use Rattle.values.specs.declared.parameter.Parameter.{Parameter}
 use Rattle.values.specs.declared.parameter.ParameterFound.the-variants.{At}
-use Rattle.syntax.specs.Shape.{part}
+use Rattle.text.specs.Cut.{part}
 use Rattle.line.specs.Meaning.{meaning}
 use Rattle.line.specs.Meaning.Laws.{Puts, Gets, names-place, names-label, put-told, get-told}
 use Rattle.spelling.specs.Reply.{getReply}

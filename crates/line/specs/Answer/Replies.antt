@@ -13,11 +13,11 @@ use Rattle.values.specs.Values.{valuesSound}
 use Rattle.values.specs.Values.Laws.{value-permitted}
 use Rattle.room.specs.declared.label.Bearer.the-variants.{Only}
 use Rattle.values.specs.declared.parameter.Parameter.{Parameter}
-use Rattle.syntax.specs.Shape.{part}
+use Rattle.text.specs.Cut.{part}
 use Rattle.line.specs.Meaning.{meaning}
 use Rattle.line.specs.Meaning.Laws.{Gets, names-label, get-told}
 use Rattle.spelling.specs.Reply.{getReply}
-use Rattle.spelling.specs.Acknowledgement.{ack, nak}
+use Rattle.spelling.specs.Acknowledgement.Laws.{ack-length, nak-length}
 use Rattle.line.specs.Told.{Told, reply-told}
 use Rattle.line.specs.Answer.{act, answer}
 use Rattle.line.specs.Answer.Laws.{Effect, refused, told, put, gets-place, answered, effect}
@@ -39,10 +39,9 @@ module _ (t : List ℕ) (vs : List ℤ) (line : List ℕ) (s : sound t ≡ true)
 
   -- no reply is longer than 51 bytes
   pub reply-limit : length (answer t vs line .reply) ≤ 51
-  unfolding ack nak
   reply-limit = go (effect t vs line s)
     where
       go : Effect t vs line → length (answer t vs line .reply) ≤ 51
-      go (refused n m e) = rw e (omega arith)
+      go (refused n m e) = rw e (omega (arith, nak-length n))
       go (told p m g l e) = rw e (gets-told p g .short)
-      go (put p x m g l e) = rw e (omega arith)
+      go (put p x m g l e) = rw e (omega (arith, ack-length))

@@ -14,6 +14,7 @@ use Rattle.text.specs.Written.{Wrote}
 use Rattle.catalogue.specs.Row.Laws.{bits}
 use Rattle.room.specs.Label.Laws.{bearer-found}
 use Rattle.values.specs.Parameters.{place}
+use Rattle.values.specs.Parameters.First.{place-is}
 use Rattle.room.specs.Table.{sound}
 use Rattle.values.specs.Values.{valuesSound}
 use Rattle.values.specs.Values.Laws.{value-inside}
@@ -23,7 +24,8 @@ use Rattle.room.specs.declared.label.Bearer.the-variants.{Only, NotOne}
 use Rattle.values.specs.declared.parameter.Parameter.{Parameter}
 use Rattle.values.specs.declared.parameter.ParameterFound.{ParameterFound}
 use Rattle.values.specs.declared.parameter.ParameterFound.the-variants.{At, Nothing}
-use Rattle.syntax.specs.Shape.{part, shape}
+use Rattle.text.specs.Cut.{part}
+use Rattle.syntax.specs.Shape.{shape}
 use Rattle.syntax.specs.declared.shape.Shape.{Shape}
 use Rattle.syntax.specs.declared.shape.Shape.the-variants as shape
 use Rattle.syntax.specs.declared.index_part.IndexPart.{IndexPart}
@@ -49,22 +51,19 @@ pub record Tellable (t : List ℕ) (vs : List ℤ) (p : Parameter) : Type 0 wher
 
 pub tell-room : (t : List ℕ) (vs : List ℤ) (p : Parameter) (buffer : List ℕ) → Tellable t vs p → 64 ≤ length buffer → SFits w64 (getD vs (p .owner .first + p .number) (pos 0))
     → length (getReply t p (bits (getD vs (p .owner .first + p .number) (pos 0)))) ≤ length buffer
-unfolding place
 tell-room t vs p buffer h l f =
-    let e : getReply t p (bits (getD vs (p .owner .first + p .number) (pos 0))) ≡ getReply t p (getD vs (p .owner .first + p .number) (pos 0)) = ap (getReply t p) (toZ-ofZ f) in
-    omega (arith, ap length e, h .short)
+    let e : getReply t p (getD vs (place p) (pos 0)) ≡ getReply t p (getD vs (p .owner .first + p .number) (pos 0)) = rw (place-is p) in
+    rw (toZ-ofZ f) (omega (arith, ap length e, h .short))
 
 pub told-value : (t : List ℕ) (vs : List ℤ) (p : Parameter) (buffer : List ℕ) (r : ℕ) (buffer′ : List ℕ) → SFits w64 (getD vs (p .owner .first + p .number) (pos 0))
     → Wrote buffer 0 (getReply t p (bits (getD vs (p .owner .first + p .number) (pos 0)))) r buffer′
     → Wrote buffer 0 (getReply t p (getD vs (place p) (pos 0))) r buffer′
-unfolding place
-told-value t vs p buffer r buffer′ f w = rw (toZ-ofZ f) at w
+told-value t vs p buffer r buffer′ f w = rw (place-is p) (rw (toZ-ofZ f) at w)
 
 pub ruleset telling = (tell-room, told-value)
 
 pub set-value : (vs : List ℤ) (p : Parameter) (x : ℤ) → SFits w64 x → set vs (p .owner .first + p .number) (bits x) ≡ set vs (place p) x
-unfolding place
-set-value vs p x f = ap (set vs (p .owner .first + p .number)) (toZ-ofZ f)
+set-value vs p x f = rw (place-is p) (ap (set vs (p .owner .first + p .number)) (toZ-ofZ f))
 
 pub ruleset putting = (set-value)
 
@@ -120,19 +119,18 @@ module _ (t : List ℕ) (vs : List ℤ) (line : List ℕ) (m : Meaning) (e : m �
   code-below n h = code-small t vs line n (sym e ∙ h)
 
   pub get-tellable : (p : Parameter) → m ≡ Get p → sound t ≡ true → valuesSound t vs ≡ true → Tellable t vs p
-  unfolding place act
+  unfolding act
   get-tellable p h s v =
       let told = sym e ∙ h in
       let g = get-told t vs line p told in
       record {
-        within = value-inside t vs (p .owner .first + p .number) p v (gets-place t line p s g);
+        within = rw (place-is p) at (value-inside t vs (place p) p v (gets-place t line p s g));
         room = bearer-found t _ (p .owner) s (gets-label t line p s g) .room;
         short = omega (arith, reply-limit t vs line s v, ap (λ a. length (a .reply)) (answered t vs line (Get p) told));
       }
 
   pub put-within : (p : Parameter) (x : ℤ) → m ≡ Put p x → sound t ≡ true → valuesSound t vs ≡ true → p .owner .first + p .number < length vs
-  unfolding place
-  put-within p x h s v = value-inside t vs (p .owner .first + p .number) p v (puts-place t vs line p x s (put-told t vs line p x (sym e ∙ h)))
+  put-within p x h s v = rw (place-is p) at (value-inside t vs (place p) p v (puts-place t vs line p x s (put-told t vs line p x (sym e ∙ h))))
 
   module _ (buffer : List ℕ) (r : ℕ) (buffer′ : List ℕ) where
     pub answers-code : (n : ℕ) → m ≡ Code n → Wrote buffer 0 (nak n) r buffer′ → Answers t vs line buffer r vs buffer′

@@ -9,6 +9,7 @@ use lib.ListN.{length, getD}
 use Rattle.room.specs.Label.{label, bearer}
 use Rattle.room.specs.Label.Laws.{bearer-found}
 use Rattle.values.specs.Parameters.{named, parameters, parameterAt, place}
+use Rattle.values.specs.Parameters.First.{place-is}
 use Rattle.values.specs.Parameters.Places.{at-module}
 use Rattle.values.specs.Parameters.Named.{named-told}
 use Rattle.room.specs.Table.{sound}
@@ -19,7 +20,8 @@ use Rattle.room.specs.declared.table.Module.{Module}
 use Rattle.values.specs.declared.parameter.Parameter.{Parameter}
 use Rattle.values.specs.declared.parameter.ParameterFound.{ParameterFound}
 use Rattle.values.specs.declared.parameter.ParameterFound.the-variants.{At, Nothing}
-use Rattle.syntax.specs.Shape.{shape, part}
+use Rattle.text.specs.Cut.{part}
+use Rattle.syntax.specs.Shape.{shape}
 use Rattle.syntax.specs.IndexPart.{readIndices}
 use Rattle.syntax.specs.Value.{readValue}
 use Rattle.syntax.specs.Value.Laws.{Valued, value-told, value-back}
@@ -68,10 +70,10 @@ names-back t text indices p h = rw (h .one, h .right) (ap inModule (h .names))
 
 -- the parameter named is the one that stands at its place
 pub names-place : (t text indices : List ℕ) (p : Parameter) → sound t ≡ true → Names t text indices p → parameterAt (parameters t) (place p) ≡ At p
-unfolding place
 names-place t text indices p s h =
-    at-module t (p .owner .number) (p .owner) (p .number) p (bearer-found t text (p .owner) s (h .one) .found)
-    (named-told (p .owner) (h .groups) p (h .names) .own)
+    rw (place-is p)
+    (at-module t (p .owner .number) (p .owner) (p .number) p (bearer-found t text (p .owner) s (h .one) .found)
+    (named-told (p .owner) (h .groups) p (h .names) .own))
 
 -- its module alone bears its label
 pub names-label : (t text indices : List ℕ) (p : Parameter) → sound t ≡ true → Names t text indices p

@@ -7,11 +7,14 @@ use lib.IntN.{ℤ, pos}
 use lib.ListN.{length, getD, take, drop}
 use Rattle.catalogue.specs.Catalogue.{known}
 use Rattle.catalogue.specs.Row.{permitted}
-use Rattle.catalogue.specs.Row.Laws.{RowFits, bits}
+use Rattle.catalogue.specs.Row.{RowFits}
+use Rattle.catalogue.specs.Row.Laws.{bits}
+use Rattle.catalogue.specs.Row.Near.{permitted-bits}
 use Rattle.room.specs.Label.{bearer}
 use Rattle.room.specs.Label.Laws.{bearer-found}
 use Rattle.values.specs.Parameters.{named, parameterAt, parameters, place}
 use Rattle.values.specs.Parameters.Each.{parameter-fits}
+use Rattle.values.specs.Parameters.First.{place-is}
 use Rattle.room.specs.Table.{sound}
 use Rattle.values.specs.Values.{valuesSound}
 use Rattle.values.specs.Values.Laws.{value-inside, value-permitted}
@@ -22,13 +25,14 @@ use Rattle.room.specs.declared.table.Module.{Module}
 use Rattle.values.specs.declared.parameter.Parameter.{Parameter}
 use Rattle.values.specs.declared.parameter.ParameterFound.{ParameterFound}
 use Rattle.values.specs.declared.parameter.ParameterFound.the-variants.{At, Nothing}
-use Rattle.syntax.specs.Shape.{shape, part}
+use Rattle.text.specs.Cut.{part}
+use Rattle.text.specs.Cut.Part.{part-is}
+use Rattle.syntax.specs.Shape.{shape}
 use Rattle.syntax.specs.Shape.Laws.{set-ordered}
 use Rattle.syntax.specs.Shape.Reading.{get-ordered}
 use Rattle.syntax.specs.IndexPart.{readIndices}
 use Rattle.syntax.specs.Value.{readValue}
 use Rattle.syntax.specs.Value.Laws.{value-told}
-use Rattle.syntax.specs.Value.Reading.{permitted-bits}
 use Rattle.line.specs.Meaning.{indexed, Target, target, code, inModule, inRoom, putOf, getOf, setOf, ofShape, meaning}
 use Rattle.line.specs.Meaning.Laws.{names-told, names-place}
 use Rattle.line.specs.declared.meaning.Target as declared
@@ -105,14 +109,14 @@ module _ (vs : List ℤ) (p : Parameter) (h : Holds vs p) where
     said = rw plain at e
 
     pub put-said : (x : ℤ) → w ≡ value.Value x → Put p (bits x) ≡ putOf p (readValue (p .row) (getD vs (place p) (pos 0)) s)
-    unfolding putOf place
+    unfolding putOf
     put-said x k =
         let v = value-told (p .row) (getD vs (p .owner .first + p .number) (pos 0)) s x (sym said ∙ k) in
-        rw (← said, k, permitted-bits (p .row) x (h .fits) (v .permits))
+        rw (place-is p, ← said, k, permitted-bits (p .row) x (h .fits) (v .permits))
 
     pub put-wrong : w ≡ value.Wrong → Code 3 ≡ putOf p (readValue (p .row) (getD vs (place p) (pos 0)) s)
-    unfolding putOf place
-    put-wrong k = rw (← said, k)
+    unfolding putOf
+    put-wrong k = rw (place-is p, ← said, k)
 
 pub ruleset put-rules = (held-fits, held-permitted, put-said, put-wrong)
 
@@ -121,23 +125,22 @@ pub ruleset put-rules = (held-fits, held-permitted, put-said, put-wrong)
 -- what is named has its place in the values
 named-held : (t label s : List ℕ) (vs : List ℤ) (p : Parameter) → inRoom (bearer t label) (readIndices s) ≡ target p → sound t ≡ true
     → valuesSound t vs ≡ true → Holds vs p
-unfolding valuesSound place
 named-held t label s vs p e sd vd =
     let k = p .owner .first + p .number in
-    let at : parameterAt (parameters t) k ≡ At p = names-place t label s p sd (names-told t label s p e) in
+    let at : parameterAt (parameters t) k ≡ At p = rw (place-is p) at (names-place t label s p sd (names-told t label s p e)) in
     record { within = value-inside t vs k p vd at; fits = parameter-fits t k p at; permits = value-permitted t vs k p vd at }
 
 module _ (t line : List ℕ) (o c : ℕ) (g : declared.Target) where
   module _ (e : aim g ≡ inRoom (bearer t (take (c - (o + 1)) (drop (o + 1) line))) (readIndices (take (length line - (c + 1)) (drop (c + 1) line)))) where
     pub get-named : (p : Parameter) → g ≡ aimed.At p
         → Get p ≡ getOf (inRoom (bearer t (part line (o + 1) c)) (readIndices (part line (c + 1) (length line))))
-    unfolding getOf part aim
-    get-named p h = rw (← e, h)
+    unfolding getOf aim
+    get-named p h = rw (part-is line (o + 1) c, part-is line (c + 1) (length line), ← e, h)
 
     pub get-coded : (n : ℕ) → g ≡ aimed.Code n
         → Code n ≡ getOf (inRoom (bearer t (part line (o + 1) c)) (readIndices (part line (c + 1) (length line))))
-    unfolding getOf part aim
-    get-coded n h = rw (← e, h)
+    unfolding getOf aim
+    get-coded n h = rw (part-is line (o + 1) c, part-is line (c + 1) (length line), ← e, h)
 
   module _ (q : ℕ) (vs : List ℤ) (e : aim g ≡ inRoom (bearer t (take (c - (o + 1)) (drop (o + 1) line))) (readIndices (take (q - (c + 1)) (drop (c + 1) line)))) where
     pub set-held : (p : Parameter) → g ≡ aimed.At p → sound t ≡ true → valuesSound t vs ≡ true → Holds vs p
@@ -148,12 +151,12 @@ module _ (t line : List ℕ) (o c : ℕ) (g : declared.Target) where
 
     pub set-named : (p : Parameter) (r : Meaning) → g ≡ aimed.At p
         → r ≡ putOf p (readValue (p .row) (getD vs (place p) (pos 0)) (take (length line - (q + 1)) (drop (q + 1) line))) → r ≡ ofShape t vs line (shape.Set o c q)
-    unfolding ofShape setOf part aim
-    set-named p r h f = f ∙ rw (← e, h)
+    unfolding ofShape setOf aim
+    set-named p r h f = f ∙ rw (part-is line (o + 1) c, part-is line (c + 1) q, part-is line (q + 1) (length line), ← e, h)
 
     pub set-coded : (n : ℕ) → g ≡ aimed.Code n → Code n ≡ ofShape t vs line (shape.Set o c q)
-    unfolding ofShape setOf part aim
-    set-coded n h = rw (← e, h)
+    unfolding ofShape setOf aim
+    set-coded n h = rw (part-is line (o + 1) c, part-is line (c + 1) q, ← e, h)
 
 pub ruleset get-rules = (get-named, get-coded)
 

@@ -1,16 +1,16 @@
 -- The set line that is written is made of bytes, has no 0D, and reads back as a put of its value.
-use mathlib.Core.Path.{_≡_, refl}
+use mathlib.Core.Path.{_≡_}
 use mathlib.Core.Bool.{true}
-use mathlib.Core.List.{List, append-assoc}
+use mathlib.Core.List.{List}
 use Prim.Native.Nat.{ℕ, _≤_}
 use native.Mathlib.Omega.{arith}
 use lib.IntN.{ℤ, pos}
 use lib.ListN.{length, getD, set}
 use Rattle.text.specs.Byte.{isByte}
 use Rattle.text.specs.Cut.{indexOf}
-use Rattle.text.specs.Digits.{isDigit}
 use Rattle.text.specs.Every.{every}
-use Rattle.text.specs.Byte.Values.{valueByte}
+use Rattle.text.specs.Byte.Values.{return-other}
+use Rattle.record.specs.Field.Bytes.{label-bytes}
 use Rattle.room.specs.Label.{label, bearer}
 use Rattle.values.specs.Parameters.{parameters, parameterAt, place}
 use Rattle.catalogue.specs.Row.{permitted}
@@ -19,27 +19,25 @@ use Rattle.catalogue.specs.declared.row.Kind.{Kind}
 use Rattle.room.specs.declared.label.Bearer.the-variants.{Only}
 use Rattle.values.specs.declared.parameter.Parameter.{Parameter}
 use Rattle.values.specs.declared.parameter.ParameterFound.the-variants.{At}
-use Rattle.syntax.specs.Shape.Laws.{setLine}
-use Rattle.line.specs.Said.Bytes.{say-bytes}
-use Rattle.line.specs.Said.Texts.{text-back, text-short, text-lacks}
+use Rattle.line.specs.Said.Texts.{text-back}
 use Rattle.line.specs.Meaning.{meaning}
 use Rattle.line.specs.Meaning.Laws.{puts-back}
-use Rattle.spelling.specs.Name.{name}
 use Rattle.spelling.specs.Acknowledgement.{ack}
 use Rattle.line.specs.Answer.{act, answer}
 use Rattle.line.specs.Answer.Laws.{Puttable, answered}
 use Rattle.spelling.specs.Say.{say}
+use Rattle.spelling.specs.Say.Laws.{say-bytes, say-spelled}
 use Rattle.spelling.specs.Text.{setText}
+use Rattle.spelling.specs.Text.Laws.{text-lacks, text-short}
 use Rattle.line.specs.Said.Naming.{Reached, reached, naming, parts-put, reached-sized, naming-short, naming-parts, rest, naming-rest, rest-no-return, verb-no-return}
 use Rattle.line.specs.declared.meaning.Meaning.the-variants.{Put}
 
 pub say-naming : (t : List ℕ) (p : Parameter) (v x : ℤ) → say t p v x ≡ naming t p (setText (p .row .kind) x)
-unfolding say name naming setLine
-say-naming t p v x = simp append-assoc
+unfolding naming rest
+say-naming t p v x = say-spelled t p v x
 
 no-return : (k : Kind) (x : ℤ) → indexOf 0x0D (setText k x) ≡ length (setText k x)
-unfolding valueByte isDigit
-no-return k x = text-lacks 0x0D k x refl
+no-return k x = text-lacks 0x0D k x return-other
 
 naming-whole : (t : List ℕ) (p : Parameter) → Reached t p → (w : List ℕ) → indexOf 0x0D w ≡ length w → indexOf 0x0D (naming t p w) ≡ length (naming t p w)
 naming-whole t p r w h =
@@ -59,7 +57,7 @@ naming-said t p v x r s h =
     let w = setText (p .row .kind) x in
     let short = text-short (p .row .kind) x z in
     record {
-      bytes = rw (say-naming t p v x) at (say-bytes t p v x (r .right));
+      bytes = rw (say-naming t p v x) at (say-bytes t p v x (label-bytes (label t (p .owner)) (r .right)));
       whole = naming-whole t p r w (no-return (p .row .kind) x);
       short = naming-short t p r w short;
       means = λ vs. puts-back t vs (naming t p w) p x

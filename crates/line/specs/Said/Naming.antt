@@ -6,12 +6,11 @@ use Prim.Native.Nat.{ℕ, _+_, _≤_}
 use native.Mathlib.Omega.{arith}
 use lib.IntN.{ℤ, pos}
 use lib.ListN.{length, getD}
-use Rattle.text.specs.Cut.{indexOf}
+use Rattle.text.specs.Cut.{indexOf, part}
 use Rattle.text.specs.Cut.Lacking.{lacks-cons, lacks-append}
-use Rattle.text.specs.Digits.{isDigit}
-use Rattle.text.specs.Byte.Values.{valueByte}
-use Rattle.text.specs.Every.Laws.{both-left}
-use Rattle.catalogue.specs.Catalogue.Sized.{Sized, permitted-sized, sizedBounds, sizedIndices, sizedRow}
+use Rattle.text.specs.Byte.Values.{equals-other, return-other}
+use Rattle.catalogue.specs.Catalogue.Sized.{Sized, permitted-sized, sizedIndices, sizedRow}
+use Rattle.catalogue.specs.Catalogue.Sized.Groups.{row-indices}
 use Rattle.room.specs.Label.{label, bearer}
 use Rattle.room.specs.Label.Laws.{bearer-found}
 use Rattle.record.specs.Field.Bytes.{label-right, label-no-quote, label-no-return}
@@ -24,14 +23,15 @@ use Rattle.record.specs.Field.{labelRight}
 use Rattle.room.specs.declared.label.Bearer.the-variants.{Only}
 use Rattle.values.specs.declared.parameter.Parameter.{Parameter}
 use Rattle.values.specs.declared.parameter.ParameterFound.the-variants.{At}
-use Rattle.syntax.specs.Shape.{shape, part}
-use Rattle.syntax.specs.Shape.Laws.{setLine, set-line-length, set-line-shape, set-line-label, set-line-indices, set-line-text}
+use Rattle.syntax.specs.Shape.{shape}
+use Rattle.syntax.specs.Shape.Laws.{SetLine, set-line-length, set-line-shape, set-line-label, set-line-indices, set-line-text}
 use Rattle.syntax.specs.IndexPart.{readIndices}
-use Rattle.line.specs.Said.Indices.{indices-back, indices-lack}
+use Rattle.line.specs.Said.Indices.{indices-back}
 use Rattle.syntax.specs.Value.Laws.{Valued}
 use Rattle.line.specs.Meaning.Laws.{Names, Puts}
 use Rattle.spelling.specs.IndexText.{indexText}
 use Rattle.syntax.specs.declared.shape.Shape.the-variants as shape
+use Rattle.spelling.specs.IndexText.Laws.{indices-lack}
 use Rattle.spelling.specs.IndexText.Length.{indices-short}
 
 -- p is a parameter of the sound table t, and its module alone bears its label
@@ -45,16 +45,16 @@ pub reached : (t : List ℕ) (k : ℕ) (p : Parameter) → sound t ≡ true → 
 reached t k p s e o =
     record { right = bearer-found t (label t (p .owner)) (p .owner) s o .right; one = o; own = at-place t k p e .own }
 
--- the label, the row's indices and a value text
-unfoldable pub naming : List ℕ → Parameter → List ℕ → List ℕ
-naming t p w = setLine (label t (p .owner)) (indexText (p .row .indices)) w
-
--- its part behind the verb
+-- behind the verb: the label, the row's indices and a value text
 unfoldable pub rest : List ℕ → Parameter → List ℕ → List ℕ
 rest t p w = 0x22 ∷ (label t (p .owner) ++ (0x22 ∷ (indexText (p .row .indices) ++ (0x3D ∷ w))))
 
+-- the set line
+unfoldable pub naming : List ℕ → Parameter → List ℕ → List ℕ
+naming t p w = 0x53 ∷ 0x41 ∷ rest t p w
+
 pub naming-rest : (t : List ℕ) (p : Parameter) (w : List ℕ) → naming t p w ≡ 0x53 ∷ 0x41 ∷ rest t p w
-unfolding naming setLine rest
+unfolding naming
 naming-rest t p w = refl
 
 -- the line's places; between them stand the label and indices of p, and the text w
@@ -77,41 +77,39 @@ module _ (t : List ℕ) (p : Parameter) (r : Reached t p) where
   fits = row-sized (p .owner) (p .number) p (r .own)
 
   indices-fit : sizedIndices (p .row .indices) ≡ true
-  unfolding sizedRow
-  indices-fit = both-left (sizedIndices (p .row .indices)) (sizedBounds (p .row .kind) (p .row .low) (p .row .high)) fits
+  indices-fit = row-indices (p .row) fits
 
   pub reached-sized : (x : ℤ) → permitted (p .row) x ≡ true → Sized (p .row .kind) x
   reached-sized x h = permitted-sized (p .row) x fits h
 
+  set-line : (w : List ℕ) → SetLine (naming t p w) (label t (p .owner)) (indexText (p .row .indices)) w
+  unfolding naming rest
+  set-line w =
+      record {
+        bytes = refl;
+        unquoted = label-no-quote (label t (p .owner)) (r .right);
+        undivided = indices-lack 0x3D equals-other (λ e. omega arith) (p .row .indices);
+      }
+
   pub naming-short : (w : List ℕ) → length w ≤ 5 → length (naming t p w) ≤ 50
-  unfolding naming
   naming-short w h =
       let l = label-right (label t (p .owner)) (r .right) .most in
       let i = indices-short (p .row .indices) indices-fit in
-      omega (arith, set-line-length (label t (p .owner)) (indexText (p .row .indices)) w)
-
-  indices-undivided : indexOf 0x3D (indexText (p .row .indices)) ≡ length (indexText (p .row .indices))
-  unfolding valueByte isDigit
-  indices-undivided = indices-lack 0x3D (p .row .indices) refl (λ e. omega arith)
-
-  indices-no-return : indexOf 0x0D (indexText (p .row .indices)) ≡ length (indexText (p .row .indices))
-  unfolding valueByte isDigit
-  indices-no-return = indices-lack 0x0D (p .row .indices) refl (λ e. omega arith)
+      omega (arith, set-line-length (naming t p w) (label t (p .owner)) (indexText (p .row .indices)) w (set-line w))
 
   pub naming-parts : (w : List ℕ) → length w ≤ 5 → Parts t p w (naming t p w)
-  unfolding naming
   naming-parts w h =
+      let line = naming t p w in
       let l = label t (p .owner) in
       let i = indexText (p .row .indices) in
-      let q : indexOf 0x22 l ≡ length l = label-no-quote l (r .right) in
       let s = naming-short w h in
-      let labelled : part (setLine l i w) (2 + 1) (3 + length l) ≡ l = set-line-label l i w q indices-undivided in
-      let indexed : part (setLine l i w) (3 + length l + 1) (3 + length l + 1 + length i) ≡ i = set-line-indices l i w q indices-undivided in
+      let labelled : part line (2 + 1) (3 + length l) ≡ l = set-line-label line l i w (set-line w) in
+      let indexed : part line (3 + length l + 1) (3 + length l + 1 + length i) ≡ i = set-line-indices line l i w (set-line w) in
       record {
         quote = 2;
         close = 3 + length l;
         equal = 3 + length l + 1 + length i;
-        shaped = set-line-shape l i w q indices-undivided (omega arith);
+        shaped = set-line-shape line l i w (set-line w) (omega arith);
         labelled = labelled;
         names = record {
           one = ap (bearer t) labelled ∙ r .one;
@@ -119,7 +117,7 @@ module _ (t : List ℕ) (p : Parameter) (r : Reached t p) where
           right = ap readIndices indexed ∙ indices-back (p .row .indices) indices-fit;
           names = named-back (p .owner) (p .number) p (r .own);
         };
-        text = set-line-text l i w q indices-undivided;
+        text = set-line-text line l i w (set-line w);
       }
 
   pub rest-no-return : (w : List ℕ) → indexOf 0x0D w ≡ length w → indexOf 0x0D (rest t p w) ≡ length (rest t p w)
@@ -130,7 +128,7 @@ module _ (t : List ℕ) (p : Parameter) (r : Reached t p) where
       lacks-cons 0x0D 0x22 (l ++ (0x22 ∷ (i ++ (0x3D ∷ w)))) (λ e. omega arith)
       (lacks-append 0x0D l (0x22 ∷ (i ++ (0x3D ∷ w))) (label-no-return l (r .right))
       (lacks-cons 0x0D 0x22 (i ++ (0x3D ∷ w)) (λ e. omega arith)
-      (lacks-append 0x0D i (0x3D ∷ w) indices-no-return
+      (lacks-append 0x0D i (0x3D ∷ w) (indices-lack 0x0D return-other (λ e. omega arith) (p .row .indices))
       (lacks-cons 0x0D 0x3D w (λ e. omega arith) h))))
 
 -- two bytes more, neither of them 0D

@@ -2,37 +2,27 @@
 use mathlib.Core.Path.{_≡_, ap}
 use mathlib.Core.Bool.{true}
 use mathlib.Core.List.{List}
-use Prim.Native.Nat.{ℕ, _+_, _-_, _≤_}
+use Prim.Native.Nat.{ℕ, _+_, _≤_}
 use native.Mathlib.Omega.{arith}
 use lib.IntN.{ℤ, pos}
-use lib.ListN.{length, getD, length-take, length-drop}
+use lib.ListN.{length, getD}
+use Rattle.text.specs.Cut.{part}
+use Rattle.text.specs.Cut.Part.{part-length}
 use Rattle.room.specs.Label.{label}
 use Rattle.room.specs.Label.Laws.{bearer-found}
 use Rattle.values.specs.Parameters.{place}
 use Rattle.values.specs.Parameters.Named.{named-told}
 use Rattle.room.specs.Table.{sound}
 use Rattle.values.specs.declared.parameter.Parameter.{Parameter}
-use Rattle.syntax.specs.Shape.{part}
-use Rattle.syntax.specs.Shape.Laws.{set-line-length, set-ordered}
+use Rattle.syntax.specs.Shape.Laws.{set-ordered}
 use Rattle.line.specs.Said.Indices.{indices-shortest}
 use Rattle.line.specs.Said.Texts.{text-shortest}
 use Rattle.line.specs.Meaning.{meaning}
 use Rattle.line.specs.Meaning.Laws.{Names, put-told}
 use Rattle.spelling.specs.IndexText.{indexText}
 use Rattle.spelling.specs.Say.{say}
-use Rattle.spelling.specs.Text.{setText}
-use Rattle.line.specs.Said.Naming.{naming}
-use Rattle.line.specs.Said.Laws.{say-naming}
+use Rattle.spelling.specs.Say.Laws.{say-length}
 use Rattle.line.specs.declared.meaning.Meaning.the-variants.{Put}
-
-part-length : (line : List ℕ) (a e : ℕ) → e ≤ length line → length (part line a e) ≡ e - a
-unfolding part
-part-length line a e h = simp (length-take, length-drop) (omega arith)
-
-say-length : (t : List ℕ) (p : Parameter) (v x : ℤ)
-    → length (say t p v x) ≡ 5 + length (label t (p .owner)) + length (indexText (p .row .indices)) + length (setText (p .row .kind) x)
-unfolding naming
-say-length t p v x = rw (say-naming t p v x) (set-line-length (label t (p .owner)) (indexText (p .row .indices)) (setText (p .row .kind) x))
 
 -- the label stands in the line as in the table, and the indices take no less than their digits
 names-length : (t text indices : List ℕ) (p : Parameter) → sound t ≡ true → Names t text indices p

@@ -8,6 +8,9 @@ use borrow.Author.Tests.{ltb-true}
 use denote.Ref.{RefT, ptr, now}
 use lib.Dec.{ltb}
 use lib.ListN.{length, take, drop}
+use Rattle.text.specs.Cut.{part}
+use Rattle.text.specs.Cut.From.{from-after}
+use Rattle.text.specs.Cut.Part.{part-is}
 use Rattle.room.specs.Label.{bearer}
 use Rattle.room.specs.Table.{sound}
 use Rattle.room.specs.declared.label.Bearer.{Bearer}
@@ -15,7 +18,6 @@ use Rattle.room.specs.declared.label.Bearer.the-variants.{Only, NotOne}
 use Rattle.log.specs.Log.{partOf, partShown, logLabel}
 use Rattle.log.specs.LogPart.{firstQuote, secondQuote, shown, logPart}
 use Rattle.log.specs.LogPart.Showing.{label-room}
-use Rattle.syntax.specs.Shape.{firstFrom, part}
 use Rattle.log.specs.declared.part.LogPart.{LogPart}
 use Rattle.log.specs.declared.part.LogPart.the-variants.{Table, Line, Nothing}
 
@@ -32,13 +34,13 @@ Within t line (Line a e) = Places line a e
 Within t line Nothing = Places line 0 0
 
 quotes-ordered : (line : List ℕ) → firstQuote line + 1 ≤ secondQuote line
-unfolding secondQuote firstFrom
-quotes-ordered line = omega arith
+unfolding secondQuote
+quotes-ordered line = from-after 0x22 (firstQuote line + 1) line
 
 shown-within : (t line : List ℕ) (a e : ℕ) (g : Bearer) → sound t ≡ true → a ≤ e → e ≤ length line → g ≡ bearer t (part line a e) → Within t line (shown a e g)
-unfolding shown part
+unfolding shown
 shown-within t line a e (Only m) s o l r =
-    let h = label-room t line a e (Only m) s o l r m refl in
+    let h = label-room t line a e (Only m) s o l (rw (part-is line a e) at r) m refl in
     record { order = omega arith; end = omega arith }
 shown-within t line a e NotOne s o l r = record { order = o; end = l }
 
@@ -75,8 +77,8 @@ module _ (t line : List ℕ) (r : LogPart) (a e : ℕ) (p : r ≡ logPart t line
 module _ (table line : RefT (List ℕ)) (r : LogPart) (b o : ℕ) (bs : List ℕ) (p : r ≡ logPart (now table) (now line)) where
   lent : (s : RefT (List ℕ)) (a e : ℕ) → partShown table line r ≡ partOf s a e → b ≡ ptr s .0 → o ≡ a + ptr s .1 → bs ≡ take (e - a) (drop a (now s))
       → record { block = b; at = o; bytes = bs } ≡ logLabel table line
-  unfolding logLabel partOf part
-  lent s a e q x y z = rw (x, y, z) (sym q ∙ ap (partShown table line) p)
+  unfolding logLabel partOf
+  lent s a e q x y z = rw (x, y, z, ← part-is (now s) a e) (sym q ∙ ap (partShown table line) p)
 
   pub table-lent : (a e : ℕ) → r ≡ Table a e → b ≡ ptr table .0 → o ≡ a + ptr table .1 → bs ≡ take (e - a) (drop a (now table))
       → record { block = b; at = o; bytes = bs } ≡ logLabel table line

@@ -7,11 +7,11 @@ use native.Mathlib.Omega.{arith}
 use borrow.Author.Tests.{not-true, lt-ltb, le-ltb}
 use lib.Dec.{ltb}
 use lib.ListN.{length, take, drop, length-take, length-drop}
-use lib.Seq.{take-all}
 use mir.Syntax.{w64}
 use mir.Val.{Fits}
-use Rattle.text.specs.Cut.{indexOf}
-use Rattle.room.specs.Label.{label, bearer}
+use Rattle.text.specs.Cut.{indexOf, firstFrom, part}
+use Rattle.text.specs.Cut.From.{found-from, from-after}
+use Rattle.room.specs.Label.{bearer}
 use Rattle.room.specs.Label.Laws.{bearer-found}
 use Rattle.room.specs.Table.{sound}
 use Rattle.room.specs.declared.label.Bearer.{Bearer}
@@ -19,10 +19,10 @@ use Rattle.room.specs.declared.label.Bearer.the-variants.{Only, NotOne}
 use Rattle.room.specs.declared.table.Module.{Module}
 use Rattle.log.specs.LogPart.{firstQuote, secondQuote, shown, logPart}
 use Rattle.room.specs.Label.Length.{label-short}
-use Rattle.syntax.specs.Shape.{firstFrom, part}
 use Rattle.log.specs.declared.part.LogPart.{LogPart}
 use Rattle.log.specs.declared.part.LogPart.the-variants.{Table, Line, Nothing}
 use Rattle.text.specs.Cut.Laws.{index-within}
+use Rattle.text.specs.Cut.Part.{part-is}
 use Rattle.text.specs.Every.Laws.{test-held}
 
 -- ---- the table
@@ -43,8 +43,8 @@ unquoted t line h = rw (le-ltb (secondQuote line) (length line) h) (go (sound t)
     go false = refl
 
 pub no-quote : (t line : List ℕ) (first : ℕ) → first ≡ indexOf 0x22 line → length line ≤ first → Nothing ≡ logPart t line
-unfolding secondQuote firstQuote firstFrom
-no-quote t line first e h = unquoted t line (omega arith)
+unfolding secondQuote firstQuote
+no-quote t line first e h = unquoted t line (omega (arith, from-after 0x22 (indexOf 0x22 line + 1) line))
 
 pub behind-fits : (line : List ℕ) (first : ℕ) → first < length line → Fits w64 (length line) → Fits w64 (first + 1)
 behind-fits line first l f = record { fits = omega (arith, f .fits) }
@@ -59,12 +59,9 @@ found-fits line b start next e s f =
 
 module _ (line : List ℕ) (first next : ℕ) (e : first ≡ indexOf 0x22 line) (b : first < length line)
     (f : next ≡ indexOf 0x22 (take (length line - (first + 1)) (drop (first + 1) line))) where
-  rest-is : take (length line - (first + 1)) (drop (first + 1) line) ≡ drop (first + 1) line
-  rest-is = take-all (length line - (first + 1)) (drop (first + 1) line) (simp length-drop (omega arith))
-
   second-is : first + 1 + next ≡ secondQuote line
-  unfolding secondQuote firstQuote firstFrom
-  second-is = rw (f, rest-is, e) refl
+  unfolding secondQuote firstQuote
+  second-is = found-from 0x22 (first + 1) next line (omega arith) f ∙ ap (λ n. firstFrom 0x22 (n + 1) line) e
 
   pub one-quote : (t : List ℕ) → length line ≤ first + 1 + next → Nothing ≡ logPart t line
   one-quote t h = unquoted t line (rw second-is at h)
@@ -81,7 +78,6 @@ pub ruleset finding = (test-held, no-table, no-quote, behind-fits, found-fits, o
 -- ---- the module that bears the text
 
 text-short : (t text : List ℕ) (m : Module) → sound t ≡ true → bearer t text ≡ Only m → length text ≤ 32
-unfolding label
 text-short t text m s e = label-short t m (length text) (ap length (sym (bearer-found t text m s e .labelled)))
 
 module _ (t line : List ℕ) (a e : ℕ) (g : Bearer) (s : sound t ≡ true) (o : a ≤ e) (l : e ≤ length line) (r : g ≡ bearer t (take (e - a) (drop a line))) where
@@ -100,11 +96,11 @@ module _ (t line : List ℕ) (a e : ℕ) (g : Bearer) (s : sound t ≡ true) (o 
   label-end-fits m k f = let h = label-room m k in record { fits = omega (arith, f .fits) }
 
   pub table-part : (m : Module) → g ≡ Only m → Table (m .place + 1) (m .place + 1 + (e - a)) ≡ shown a e (bearer t (part line a e))
-  unfolding shown part
-  table-part m k = ap (shown a e) (sym k ∙ r)
+  unfolding shown
+  table-part m k = rw (part-is line a e) (ap (shown a e) (sym k ∙ r))
 
   pub line-part : g ≡ NotOne → Line a e ≡ shown a e (bearer t (part line a e))
-  unfolding shown part
-  line-part k = ap (shown a e) (sym k ∙ r)
+  unfolding shown
+  line-part k = rw (part-is line a e) (ap (shown a e) (sym k ∙ r))
 
 pub ruleset showing = (label-fits, label-end-fits, table-part, line-part)

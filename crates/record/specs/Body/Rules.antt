@@ -2,25 +2,13 @@
 use mathlib.Core.Path.{_≡_, sym, _∙_}
 use mathlib.Core.Bool.{Bool, true, false, not}
 use mathlib.Core.List.{List}
-use Prim.Native.Nat.{ℕ, _≤_, _<_}
-use borrow.Author.Tests.{eq-eqb, ne-eqb, le-leb, lt-leb, not-true, not-false}
-use lib.Dec.{leb}
+use Prim.Native.Nat.{ℕ}
+use borrow.Author.Tests.{eq-eqb, ne-eqb, not-true, not-false}
 use lib.ListN.{length}
 use Rattle.catalogue.specs.Catalogue.{known}
+use Rattle.catalogue.specs.Catalogue.Laws.{kind-high, kind-low}
 use Rattle.record.specs.Body.{bodyLength, bodySound}
 use Rattle.record.specs.Field.{fieldSound}
-
--- ---- a kind
-
-pub kind-low : (kind : ℕ) → kind < 1 → false ≡ known kind
-unfolding known
-kind-low kind l = rw (lt-leb 1 kind l)
-
-pub kind-high : (kind : ℕ) → 1 ≤ kind → leb kind 6 ≡ known kind
-unfolding known
-kind-high kind l = rw (le-leb 1 kind l)
-
--- ---- a body
 
 pub body-unknown : (kind : ℕ) (s : List ℕ) (t : Bool) → t ≡ known kind → not t ≡ true → false ≡ bodySound kind s
 unfolding bodySound

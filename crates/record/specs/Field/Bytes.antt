@@ -1,17 +1,19 @@
 -- The bytes of a label.
-use mathlib.Core.Path.{_≡_, refl, ap}
-use mathlib.Core.Bool.{true, not, _&&_}
-use mathlib.Core.List.{List, [], _∷_}
-use Prim.Native.Nat.{ℕ, zero, suc, _≤_, _<_}
+use mathlib.Core.Path.{_≡_, refl}
+use mathlib.Core.Bool.{Bool, true, false, not, _&&_}
+use mathlib.Core.List.{List}
+use Prim.Native.Nat.{ℕ, _≤_, _<_}
 use native.Mathlib.Omega.{arith}
-use borrow.Author.Tests.{eqb-false, leb-true, lt-ltb, ne-eqb, not-true}
+use borrow.Author.Tests.{eqb-false, leb-true, not-true}
 use lib.Dec.{eqb, leb}
-use lib.ListN.{length, getD}
+use lib.ListN.{length, getD, drop}
 use Rattle.text.specs.Byte.{isByte}
-use Rattle.text.specs.Cut.{indexOf}
-use Rattle.text.specs.Every.Laws.{both-left, both-right, every-weaker}
+use Rattle.text.specs.Byte.Laws.{is-byte}
+use Rattle.text.specs.Cut.{before, indexOf}
+use Rattle.text.specs.Cut.Laws.{index-none}
+use Rattle.text.specs.Every.Laws.{both-left, both-right, every-at, every-weaker}
 use Rattle.text.specs.Every.{every}
-use Rattle.record.specs.Field.{labelByte, labelRight}
+use Rattle.record.specs.Field.{fieldSound, isZero, labelByte, labelRight}
 
 pub record Printed (b : ℕ) : Type 0 where
   pub low : 32 ≤ b
@@ -43,21 +45,22 @@ label-right s e =
       each = both-right (leb 1 (length s) && leb (length s) 32) (every labelByte s) e;
     }
 
+-- a sound field begins with a label
+pub field-label : (f : List ℕ) → fieldSound f ≡ true → labelRight (before 0 f) ≡ true
+unfolding fieldSound
+field-label f e = both-left (labelRight (before 0 f)) (every isZero (drop (indexOf 0 f) f)) e
+
 -- each byte of a label
 pub label-at : (s : List ℕ) → every labelByte s ≡ true → (i : ℕ) → i < length s → Printed (getD s i 0)
-unfolding every
-label-at [] e i l = absurd (omega arith)
-label-at (b ∷ s) e zero l = label-byte b (both-left (labelByte b) (every labelByte s) e)
-label-at (b ∷ s) e (suc i) l = label-at s (both-right (labelByte b) (every labelByte s) e) i (omega arith)
+label-at s e i l = label-byte (getD s i 0) (every-at labelByte s 0 e i l)
 
 -- a byte that no label may have is not found in one
 pub label-without : (b : ℕ) → (Printed b → ⊥) → (s : List ℕ) → every labelByte s ≡ true → indexOf b s ≡ length s
-unfolding every indexOf
-label-without b n [] e = refl
-label-without b n (x ∷ s) e =
-    let p = label-byte x (both-left (labelByte x) (every labelByte s) e) in
-    let r = label-without b n s (both-right (labelByte x) (every labelByte s) e) in
-    rw (ne-eqb x b (λ q. n (rw q at p))) (ap suc r)
+label-without b n s e = go (labelByte b) refl
+  where
+    go : (t : Bool) → labelByte b ≡ t → indexOf b s ≡ length s
+    go true p = absurd (n (label-byte b p))
+    go false p = index-none labelByte b s e p
 
 pub label-no-quote : (s : List ℕ) → labelRight s ≡ true → indexOf 34 s ≡ length s
 label-no-quote s e = label-without 34 (λ p. p .unquoted refl) s (label-right s e .each)
@@ -67,5 +70,4 @@ label-no-return s e = label-without 13 (λ p. omega arith) s (label-right s e .e
 
 -- they are bytes
 pub label-bytes : (s : List ℕ) → labelRight s ≡ true → every isByte s ≡ true
-unfolding isByte
-label-bytes s e = every-weaker labelByte isByte (λ b l. lt-ltb b 256 (omega (arith, label-byte b l .high))) s (label-right s e .each)
+label-bytes s e = every-weaker labelByte isByte (λ b l. is-byte b (omega (arith, label-byte b l .high))) s (label-right s e .each)

@@ -1,5 +1,5 @@
 -- How many bytes of a field meet a test.
-use mathlib.Core.Path.{_≡_, refl, sym, ap, _∙_}
+use mathlib.Core.Path.{_≡_, sym, ap, _∙_}
 use mathlib.Core.Bool.{Bool, true, false, cond, _&&_}
 use mathlib.Core.List.{List, [], _∷_}
 use Prim.Native.Nat.{ℕ, suc, compare·suc-suc, _+_, _≤_, _<_}
@@ -10,6 +10,7 @@ use lib.Dec.{eqb}
 use lib.ListN.{length, getD, drop, drop-of-length-le}
 use lib.Seq.{drop-cons}
 use Rattle.text.specs.Every.{every}
+use Rattle.text.specs.Every.Laws.{every-cons, every-nil}
 use Rattle.record.specs.Field.{isZero}
 
 unfoldable pub tally : (ℕ → Bool) → List ℕ → ℕ
@@ -31,9 +32,9 @@ tally-most test (b ∷ s) = go (test b) (tally-most test s)
 
 -- all bytes are zero where as many are as there are
 pub tally-every : (s : List ℕ) → every isZero s ≡ eqb (tally isZero s) (length s)
-unfolding every tally
-tally-every [] = refl
-tally-every (b ∷ s) = go (isZero b) (tally-every s)
+unfolding tally
+tally-every [] = every-nil isZero
+tally-every (b ∷ s) = every-cons isZero b s ∙ go (isZero b) (tally-every s)
   where
     go : (t : Bool) → every isZero s ≡ eqb (tally isZero s) (length s)
         → (t && every isZero s) ≡ eqb (cond t (suc (tally isZero s)) (tally isZero s)) (suc (length s))

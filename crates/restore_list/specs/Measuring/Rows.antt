@@ -10,9 +10,8 @@ use lib.ListN.{length, getD, length-append}
 use mir.Facts.{toZ-ofZ}
 use mir.Syntax.{w64}
 use mir.Val.{Fits, SFits, ofZ, toZ}
-use Rattle.catalogue.specs.Catalogue.{known, rowsOf}
+use Rattle.catalogue.specs.Catalogue.{known, rowOf, rowsOf}
 use Rattle.catalogue.specs.Catalogue.Laws.{rows-few}
-use Rattle.catalogue.specs.Catalogue.Rules.{rowOf}
 use Rattle.catalogue.specs.declared.row.Row.{Row}
 use Rattle.values.specs.Parameters.Laws.{parameterOf}
 use Rattle.room.specs.declared.table.Module.{Module}

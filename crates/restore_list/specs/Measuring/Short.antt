@@ -10,8 +10,7 @@ use mir.Syntax.{w64}
 use mir.Val.{SFits}
 use mir.Facts.{toZ-ofZ}
 use Rattle.text.specs.Every.Laws.{both-left, every-at}
-use Rattle.catalogue.specs.Catalogue.{rowsOf}
-use Rattle.catalogue.specs.Catalogue.Rules.{noRow, rowOf}
+use Rattle.catalogue.specs.Catalogue.{noRow, rowOf, rowsOf}
 use Rattle.catalogue.specs.Catalogue.Sized.{sizedBounds, sizedIndices, sizedRow, type-sized}
 use Rattle.catalogue.specs.declared.row.Kind.{Kind}
 use Rattle.catalogue.specs.declared.row.Kind.the-variants as kind

@@ -8,8 +8,7 @@ use lib.ListN.{length, getD, length-append}
 use mir.Facts.{toZ-ofZ}
 use mir.Syntax.{w64}
 use mir.Val.{SFits, ofZ, toZ}
-use Rattle.catalogue.specs.Catalogue.{rowsOf}
-use Rattle.catalogue.specs.Catalogue.Rules.{rowOf}
+use Rattle.catalogue.specs.Catalogue.{rowOf, rowsOf}
 use Rattle.catalogue.specs.declared.row.Row.{Row}
 use Rattle.text.specs.Written.{Wrote}
 use Rattle.text.specs.Written.Laws.{wrote-join, wrote-length, wrote-nothing, past-by}

@@ -8,11 +8,11 @@ use lib.ListN.{length}
 use Rattle.catalogue.specs.Catalogue.{known}
 use Rattle.room.specs.Table.{moduleAt, modules, sound}
 use Rattle.record.specs.Field.{labelRight}
-use Rattle.room.specs.Table.Modules.{ModuleIn, at-first, at-none, at-others, module-in, module-known, module-room, record-label}
+use Rattle.room.specs.Table.Modules.{ModuleIn, at-first, at-others, module-in, module-known, module-room, no-module, record-label, the-first}
 use Rattle.room.specs.Label.{bearer, bearersIn, exactlyOne, label, same}
 use Rattle.room.specs.Label.Match.{same-refl, same-true}
 use Rattle.room.specs.declared.table.Module.{Module}
-use Rattle.room.specs.declared.table.ModuleFound.the-variants.{At, Nothing}
+use Rattle.room.specs.declared.table.ModuleFound.the-variants.{At}
 use Rattle.room.specs.declared.label.Bearer.the-variants.{Only}
 
 -- ---- one of the modules
@@ -36,15 +36,6 @@ two-none a m (b ∷ ms) e = absurd (let z : _≡_ {A = ℕ} 0 1 = cc in omega ar
 none-alone : (m : Module) → exactlyOne [] ≡ Only m → ⊥
 unfolding exactlyOne
 none-alone m e = let z : _≡_ {A = ℕ} 0 1 = cc in omega arith
-
-no-module : (n : ℕ) (m : Module) → moduleAt [] n ≡ At m → ⊥
-no-module n m e =
-    let c : Nothing ≡ At m = sym (at-none n) ∙ e in
-    let z : _≡_ {A = ℕ} 0 1 = cc in
-    omega arith
-
-the-first : (a m : Module) (ms : List Module) → moduleAt (a ∷ ms) 0 ≡ At m → a ≡ m
-the-first a m ms e = let c : At a ≡ At m = sym (at-first a ms) ∙ e in cc
 
 bears-only : (t text : List ℕ) (ms : List Module) (m : Module) → exactlyOne (bearersIn t text ms) ≡ Only m → Bears t text ms m
 unfolding bearersIn
@@ -84,7 +75,7 @@ some-bearer t text (a ∷ ms) (suc n) m f l e = turn (some-bearer t text ms n m 
 only-one : (t text : List ℕ) (ms : List Module) (n : ℕ) (a m : Module) → moduleAt ms n ≡ At a → label t a ≡ text
     → exactlyOne (bearersIn t text ms) ≡ Only m → a ≡ m
 unfolding bearersIn
-only-one t text [] n a m f l e = absurd (no-module n a f)
+only-one t text [] n a m f l e = no-module n a f
 only-one t text (x ∷ ms) zero a m f l e =
     sym (the-first x a ms f) ∙ one-alone x m (bearersIn t text ms) (ap exactlyOne (sym (bears-first t text x a ms f l)) ∙ e)
 only-one t text (x ∷ ms) (suc n) a m f l e =

@@ -7,8 +7,8 @@ use lib.ListN.{length, take, drop, length-take}
 use lib.Seq.{take-take}
 use mir.Syntax.{w64}
 use mir.Val.{Fits}
-use Rattle.text.specs.Cut.{indexOf, before}
-use Rattle.text.specs.Cut.Laws.{as-many}
+use Rattle.text.specs.Cut.{before}
+use Rattle.text.specs.Cut.First.{before-short, before-taken}
 use Rattle.room.specs.declared.table.Module.{Module}
 use Rattle.room.specs.Label.{label}
 
@@ -19,19 +19,17 @@ label-long t m n e = e
 
 module _ (t : List ℕ) (m : Module) (n : ℕ) (e : n ≡ length (label t m)) where
   pub label-short : n ≤ 32
-  unfolding label before
-  label-short =
-      let f = take 32 (drop (m .place + 1) t) in
-      omega (arith, length-take (indexOf 0 f) f, length-take 32 (drop (m .place + 1) t))
+  unfolding label
+  label-short = omega (arith, before-short 0 (take 32 (drop (m .place + 1) t)), length-take 32 (drop (m .place + 1) t))
 
   -- the part of the table that is the label
   pub label-part : take (m .place + 1 + n - (m .place + 1)) (drop (m .place + 1) t) ≡ label t m
-  unfolding label before
+  unfolding label
   label-part =
       let d = drop (m .place + 1) t in
       let h = label-short in
       let z : m .place + 1 + n - (m .place + 1) ≡ n = omega arith in
-      rw z (sym (take-take n 32 d h) ∙ rw e (as-many (indexOf 0 (take 32 d)) (take 32 d)))
+      rw z (sym (take-take n 32 d h) ∙ rw e (before-taken 0 (take 32 d)))
 
   pub label-inside : m .place + 33 ≤ length t → m .place + 1 + n ≤ length t
   label-inside h = let s = label-short in omega arith

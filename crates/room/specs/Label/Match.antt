@@ -2,19 +2,20 @@
 use mathlib.Core.Path.{_≡_, refl, sym, ap, _∙_}
 use mathlib.Core.Bool.{Bool, true, false}
 use mathlib.Core.List.{List, [], _∷_}
-use Prim.Native.Nat.{ℕ, zero, suc, _+_, _-_, _≤_, _<_}
+use Prim.Native.Nat.{ℕ, suc, _+_, _-_, _≤_, _<_}
 use native.Mathlib.Omega.{arith}
-use borrow.Author.Tests.{eqb-true, eq-eqb, ne-eqb, ltb-true, ltb-false}
+use borrow.Author.Tests.{eqb-true, eq-eqb, ltb-true, ltb-false}
 use lib.Dec.{eqb, ltb}
 use lib.ListN.{length, getD, take, drop, length-take, length-drop, List·getD-eq-default}
-use lib.Seq.{drop-cons, getD-drop, getD-take, length-take-le, take-take}
+use lib.Seq.{drop-cons, getD-drop, getD-take, take-take}
 use Rattle.text.specs.Cut.{before, indexOf}
+use Rattle.text.specs.Cut.First.{before-at, before-byte, before-length, index-at}
+use Rattle.text.specs.Cut.Laws.{index-found}
 use Rattle.text.specs.Every.Laws.{both-left, both-right}
 use Rattle.text.specs.Every.{every}
 use Rattle.record.specs.Field.{labelByte, labelRight}
 use Rattle.room.specs.Label.{same}
-use Rattle.record.specs.Field.Bytes.{label-byte, label-right}
-use Rattle.text.specs.Cut.Laws.{index-within, index-found}
+use Rattle.record.specs.Field.Bytes.{label-right, label-without}
 
 -- ---- the comparison byte for byte
 
@@ -39,18 +40,6 @@ same-not a b n = go (same a b) refl
     go : (r : Bool) → same a b ≡ r → r ≡ false
     go true e = absurd (n (same-true a b e))
     go false e = refl
-
--- ---- the first zero byte
-
-index-at : (n : ℕ) (s : List ℕ) → n ≤ length s → every labelByte (take n s) ≡ true → getD s n 0 ≡ 0 → indexOf 0 s ≡ n
-unfolding indexOf every
-index-at zero [] l e z = refl
-index-at zero (b ∷ s) l e z = rw (eq-eqb b 0 z)
-index-at (suc n) [] l e z = absurd (omega arith)
-index-at (suc n) (b ∷ s) l e z =
-    let p = label-byte b (both-left (labelByte b) (every labelByte (take n s)) e) in
-    let r = index-at n s (omega arith) (both-right (labelByte b) (every labelByte (take n s)) e) z in
-    rw (ne-eqb b 0 (λ q. omega arith)) (ap suc r)
 
 -- ---- the label against the text
 
@@ -84,35 +73,29 @@ field-length t label l = simp (length-take, length-drop) (omega arith)
 
 pub differs : (t text : List ℕ) (label i : ℕ) → length text ≤ 32 → i < length text → (getD t (label + i) 0 ≡ getD text i 0 → ⊥)
     → before 0 (take 32 (drop label t)) ≡ text → ⊥
-unfolding before
 differs t text label i h l n e =
     let f = take 32 (drop label t) in
-    let c : length (take (indexOf 0 f) f) ≡ length text = ap length e in
-    let k : i < indexOf 0 f = omega (arith, length-take (indexOf 0 f) f) in
-    let j : i < 32 = omega arith in
-    n (sym (field-at t label i j) ∙ sym (getD-take (indexOf 0 f) f i 0 k) ∙ ap (λ s. getD s i 0) e)
+    let k : i < length (before 0 f) = omega (arith, ap length e) in
+    n (sym (field-at t label i (omega arith)) ∙ sym (before-byte 0 f i 0 k) ∙ ap (λ s. getD s i 0) e)
 
 pub longer : (t text : List ℕ) (label : ℕ) → label + 32 ≤ length t → length text < 32 → (getD t (label + length text) 0 ≡ 0 → ⊥)
     → before 0 (take 32 (drop label t)) ≡ text → ⊥
-unfolding before
 longer t text label room s n e =
     let f = take 32 (drop label t) in
-    let c : length (take (indexOf 0 f) f) ≡ length text = ap length e in
-    let d : length f ≡ 32 = field-length t label room in
-    let k : indexOf 0 f ≡ length text = omega (arith, length-take (indexOf 0 f) f) in
+    let k : indexOf 0 f ≡ length text = sym (before-length 0 f) ∙ ap length e in
     n (sym (field-at t label (length text) s) ∙ rw k at (index-found 0 f))
 
 pub matches : (t text : List ℕ) (label i : ℕ) → Compared t text label i → i ≤ 0 → labelRight text ≡ true
     → (length text < 32 → getD t (label + length text) 0 ≡ 0) → before 0 (take 32 (drop label t)) ≡ text
-unfolding before
 matches t text label i h l r z =
     let f = take 32 (drop label t) in
     let n = length text in
     let o : i ≡ 0 = omega arith in
     let whole : take n f ≡ text = take-take n 32 (drop label t) (h .short) ∙ rw o at (h .bytes) in
     let each : every labelByte (take n f) ≡ true = rw whole (label-right text r .each) in
-    let k : indexOf 0 f ≡ n = index-at n f (omega (arith, h .short, field-length t label (h .room))) each (ended (ltb n 32) refl) in
-    rw k whole
+    let none = label-without 0 (λ p. omega arith) (take n f) each in
+    let k : indexOf 0 f ≡ n = index-at 0 n f (omega (arith, h .short, field-length t label (h .room))) none (ended (ltb n 32) refl) in
+    before-at 0 f n k ∙ whole
   where
     ended : (b : Bool) → ltb (length text) 32 ≡ b → getD (take 32 (drop label t)) (length text) 0 ≡ 0
     ended true e = field-at t label (length text) (ltb-true (length text) 32 e) ∙ z (ltb-true (length text) 32 e)
@@ -123,8 +106,6 @@ matches t text label i h l r z =
 -- the label's length, told by its first zero byte
 pub label-counted : (t : List ℕ) (place r : ℕ) → r ≡ indexOf 0 (take (place + 33 - (place + 1)) (drop (place + 1) t))
     → r ≡ length (before 0 (take 32 (drop (place + 1) t)))
-unfolding before
 label-counted t place r e =
-    let f = take 32 (drop (place + 1) t) in
     let z : place + 33 - (place + 1) ≡ 32 = omega arith in
-    (rw z at e) ∙ sym (length-take-le (indexOf 0 f) f (index-within 0 f))
+    (rw z at e) ∙ sym (before-length 0 (take 32 (drop (place + 1) t)))

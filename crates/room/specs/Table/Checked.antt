@@ -1,17 +1,16 @@
 -- The check of a table, record by record.
 use mathlib.Core.Path.{_≡_, refl, sym, _∙_}
-use mathlib.Core.Bool.{Bool, true, false, not, _&&_, and-false}
+use mathlib.Core.Bool.{Bool, true, false, not, _&&_}
 use mathlib.Core.List.{List, [], _∷_}
 use Prim.Native.Nat.{ℕ, zero, suc, _+_, _-_, _≤_, _<_}
 use native.Mathlib.Numerals.{add-one}
 use native.Mathlib.Omega.{arith}
-use borrow.Author.Tests.{ne-eqb, not-true, not-false}
-use lib.Dec.{eqb}
+use borrow.Author.Tests.{not-true, not-false}
 use lib.ListN.{length, getD, take, drop, length-take, length-drop, drop-of-length-le}
 use lib.Seq.{drop-cons, drop-drop}
-use Rattle.catalogue.specs.Catalogue.{known}
 use Rattle.room.specs.Table.{recordLimit, recordsSound, sound, tableNumber}
 use Rattle.record.specs.Body.{bodyLength, bodySound}
+use Rattle.record.specs.Body.Laws.{cut-short}
 
 -- the records before a place are sound, and as many may follow as are left
 pub record Checked (t : List ℕ) (place left : ℕ) : Type 0 where
@@ -33,13 +32,6 @@ checked-over t place left h l e =
     let r : sound t ≡ recordsSound 0 (getD t place 0 ∷ drop (suc place) t) = rw (drop-cons t place 0, e) at (h .rest) in
     sym (r ∙ none-left (getD t place 0) (drop (suc place) t))
 
--- a body cut short by the table's end
-cut-short : (kind : ℕ) (body : List ℕ) → length body < bodyLength kind → bodySound kind body ≡ false
-unfolding bodySound
-cut-short kind body l =
-    let e : eqb (length body) (bodyLength kind) ≡ false = ne-eqb (length body) (bodyLength kind) (λ q. omega arith) in
-    rw (e, and-false (known kind))
-
 module _ (t : List ℕ) (place left size : ℕ) (h : Checked t place left) (l : place < length t) (some : left ≡ 0 → ⊥)
     (e : size ≡ bodyLength (getD t place 0)) where
   one-more : sound t ≡ (bodySound (getD t place 0) (take size (drop (place + 1) t)) && recordsSound (left - 1) (drop (place + 1 + size) t))
@@ -48,6 +40,7 @@ module _ (t : List ℕ) (place left size : ℕ) (h : Checked t place left) (l : 
       let n : left ≡ suc (left - 1) = omega arith in
       rw (drop-cons t place 0, n, ← add-one place, ← e, drop-drop) at (h .rest)
 
+  -- a body cut short by the table's end
   pub checked-short : length t - (place + 1) < size → false ≡ sound t
   checked-short s =
       let c : length (take size (drop (place + 1) t)) < size = omega (arith, length-take size (drop (place + 1) t), length-drop (place + 1) t) in

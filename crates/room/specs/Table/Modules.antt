@@ -1,38 +1,30 @@
 -- The modules of a sound table, one by one.
 use mathlib.Core.Path.{_≡_, refl, sym, subst, _∙_}
-use mathlib.Core.Bool.{true, _&&_}
+use mathlib.Core.Bool.{true}
 use mathlib.Core.List.{List, [], _∷_}
 use Prim.Native.Nat.{ℕ, zero, suc, _+_, _≤_, _<_}
 use native.Mathlib.Omega.{arith}
-use lib.Dec.{eqb}
 use lib.ListN.{length, getD, take, drop}
-use Rattle.text.specs.Cut.{before, indexOf}
+use Rattle.text.specs.Cut.{before}
 use Rattle.catalogue.specs.Catalogue.{known, rowsOf}
-use Rattle.text.specs.Every.Laws.{both-left, both-right}
-use Rattle.text.specs.Every.{every}
-use Rattle.room.specs.Table.{moduleAt, modules, sound}
-use Rattle.record.specs.Body.{bodyLength, bodySound}
-use Rattle.record.specs.Field.{fieldSound, isZero, labelRight}
+use Rattle.room.specs.Table.{moduleAt, modules, modulesFrom, recordLimit, sound}
+use Rattle.record.specs.Body.{bodyLength}
+use Rattle.record.specs.Body.Laws.{body-long, sound-body}
+use Rattle.record.specs.Field.{labelRight}
 use Rattle.room.specs.Table.Walk.{Walk, modulesAt, modules-end, modules-next, modules-start, walk-body, walk-induction, walk-known, walk-room, walk-start}
 use Rattle.room.specs.declared.table.Module.{Module}
 use Rattle.room.specs.declared.table.ModuleFound.the-variants.{At, Nothing}
 
 -- ---- the record at a place
 
-body-label : (kind : ℕ) (body : List ℕ) → bodySound kind body ≡ true → labelRight (before 0 body) ≡ true
-unfolding bodySound fieldSound
-body-label kind body e =
-    both-left (labelRight (before 0 body)) (every isZero (drop (indexOf 0 body) body))
-    (both-right (known kind && eqb (length body) (bodyLength kind)) (fieldSound body) e)
-
 pub record-room : (t : List ℕ) (number place first : ℕ) → Walk t number place first → place < length t → place + 1 + 32 ≤ length t
-unfolding bodyLength
-record-room t number place first w l = walk-room t number place first w l 32 refl
+record-room t number place first w l = walk-room t number place first w l 32 (sym (body-long (getD t place 0)))
 
 pub record-label : (t : List ℕ) (number place first : ℕ) → Walk t number place first → place < length t
     → labelRight (before 0 (take 32 (drop (place + 1) t))) ≡ true
-unfolding bodyLength
-record-label t number place first w l = body-label (getD t place 0) (take 32 (drop (place + 1) t)) (walk-body t number place first w l 32 refl)
+record-label t number place first w l =
+    let b = walk-body t number place first w l 32 (sym (body-long (getD t place 0))) in
+    sound-body (getD t place 0) (take 32 (drop (place + 1) t)) b .label
 
 -- ---- a module of the table
 
@@ -56,6 +48,29 @@ at-first a ms = refl
 pub at-others : (a : Module) (ms : List Module) (n : ℕ) → moduleAt (a ∷ ms) (suc n) ≡ moduleAt ms n
 unfolding moduleAt
 at-others a ms n = refl
+
+pub no-module {ℓ} : {A : Type ℓ} (n : ℕ) (m : Module) → moduleAt [] n ≡ At m → A
+no-module n m e =
+    let c : Nothing ≡ At m = sym (at-none n) ∙ e in
+    absurd (let z : _≡_ {A = ℕ} 0 1 = cc in omega arith)
+
+pub the-first : (a m : Module) (ms : List Module) → moduleAt (a ∷ ms) 0 ≡ At m → a ≡ m
+the-first a m ms e = let c : At a ≡ At m = sym (at-first a ms) ∙ e in cc
+
+-- what holds of no module, and of one before others whose values follow its own, holds of the modules of every table
+module _ (P : (first : ℕ) → List Module → Type 0) (none : (first : ℕ) → P first [])
+    (more : (m : Module) (ms : List Module) → P (m .first + length (rowsOf (m .kind))) ms → P (m .first) (m ∷ ms)) where
+  from-record : (left number place first : ℕ) (t : List ℕ) → P first (modulesFrom left number place first t)
+  unfolding modulesFrom
+  from-record zero number place first t = none first
+  from-record (suc left) number place first [] = none first
+  from-record (suc left) number place first (kind ∷ t) =
+      more (record { number = number; place = place; kind = kind; first = first }) _
+      (from-record left (number + 1) (place + 1 + bodyLength kind) (first + length (rowsOf kind)) (drop (bodyLength kind) t))
+
+  pub modules-induction : (t : List ℕ) → P 0 (modules t)
+  unfolding modules
+  modules-induction t = from-record recordLimit 0 0 0 t
 
 -- the modules from a record on are numbered from its number on
 abbrev Numbered : List ℕ → (number place first : ℕ) → Type 0

@@ -1,14 +1,14 @@
 -- The walk over a table's records: a running position, the record's number, and the number of its first value.
 use mathlib.Core.Path.{_≡_, refl, ap}
-use mathlib.Core.Bool.{Bool, true, false, _&&_}
+use mathlib.Core.Bool.{Bool, true, false}
 use mathlib.Core.List.{List, [], _∷_}
 use Prim.Native.Nat.{ℕ, zero, suc, _+_, _-_, _*_, _≤_, _<_}
 use native.Mathlib.Numerals.{add-one}
 use native.Mathlib.Omega.{arith}
-use borrow.Author.Tests.{eqb-true, ltb-true, ltb-false}
+use borrow.Author.Tests.{ltb-true, ltb-false}
 use mir.Syntax.{w64}
 use mir.Val.{Fits}
-use lib.Dec.{eqb, ltb}
+use lib.Dec.{ltb}
 use lib.ListN.{length, getD, take, drop, length-take, length-drop, drop-of-length-le}
 use lib.Seq.{drop-cons, drop-drop}
 use Rattle.catalogue.specs.Catalogue.{known, rowsOf}
@@ -16,7 +16,7 @@ use Rattle.text.specs.Every.Laws.{both-left, both-right}
 use Rattle.catalogue.specs.Catalogue.Laws.{rows-few}
 use Rattle.room.specs.Table.{modules, modulesFrom, recordLimit, recordsSound, sound}
 use Rattle.record.specs.Body.{bodyLength, bodySound}
-use Rattle.record.specs.Field.{fieldSound}
+use Rattle.record.specs.Body.Laws.{sound-body}
 use Rattle.room.specs.declared.table.Module.{Module}
 
 -- the modules from the record at a place on
@@ -52,16 +52,14 @@ record First (left kind : ℕ) (t : List ℕ) : Type 0 where
   others : recordsSound left (drop (bodyLength kind) t) ≡ true
 
 first-record : (left kind : ℕ) (t : List ℕ) → recordsSound (suc left) (kind ∷ t) ≡ true → First left kind t
-unfolding recordsSound bodySound
+unfolding recordsSound
 first-record left kind t e =
     let size = bodyLength kind in
-    let sized = eqb (length (take size t)) size in
     let b = both-left (bodySound kind (take size t)) (recordsSound left (drop size t)) e in
-    let ks = both-left (known kind && sized) (fieldSound (take size t)) b in
-    let l = eqb-true (length (take size t)) size (both-right (known kind) sized ks) in
+    let s = sound-body kind (take size t) b in
     record {
-      kinds = both-left (known kind) sized ks;
-      room = omega (arith, length-take size t);
+      kinds = s .kinds;
+      room = omega (arith, s .long, length-take size t);
       body = b;
       others = both-right (bodySound kind (take size t)) (recordsSound left (drop size t)) e;
     }

@@ -3,15 +3,14 @@ use mathlib.Core.Path.{_≡_}
 use mathlib.Core.Bool.{true}
 use Prim.Native.Nat.{ℕ, _+_, _≤_, _<_, _^_}
 use native.Mathlib.Omega.{arith}
-use borrow.Author.Tests.{ltb-true}
-use lib.Dec.{ltb}
 use lib.ListN.{length, length-append}
 use mir.Syntax.{w64}
 use mir.Val.{Fits}
 use Rattle.text.specs.Digits.{digits}
 use Rattle.text.specs.Digits.Value.{digits-short}
-use Rattle.text.specs.Every.Laws.{both-left, both-right}
 use Rattle.catalogue.specs.Catalogue.Sized.{sizedIndices}
+use Rattle.catalogue.specs.Catalogue.Sized.Groups as groups
+use Rattle.catalogue.specs.Catalogue.Sized.Groups.{indices-small}
 use Rattle.catalogue.specs.declared.row.Indices.{Indices}
 use Rattle.catalogue.specs.declared.row.Indices.the-variants.{OneGroup, TwoGroups}
 use Rattle.spelling.specs.IndexText.{indexText}
@@ -48,9 +47,9 @@ pub ruleset index-lengths = (one-length, two-length)
 -- ---- the indices of a row are short
 
 pub indices-short : (i : Indices) → sizedIndices i ≡ true → length (indexText i) ≤ 8
-unfolding sizedIndices indexText
-indices-short (OneGroup a) h = omega (arith, digits-short a 3 (omega arith) (ltb-true a 1000 h))
-indices-short (TwoGroups a b) h =
-    let p = ltb-true a 1000 (both-left (ltb a 1000) (ltb b 1000) h) in
-    let q = ltb-true b 1000 (both-right (ltb a 1000) (ltb b 1000) h) in
-    simp length-append (omega (arith, digits-short a 3 (omega arith) p, digits-short b 3 (omega arith) q))
+unfolding indexText
+indices-short i h = go (indices-small i h)
+  where
+    go : {i : Indices} → groups.Small i → length (indexText i) ≤ 8
+    go (groups.one a l) = omega (arith, digits-short a 3 (omega arith) l)
+    go (groups.two a b l m) = simp length-append (omega (arith, digits-short a 3 (omega arith) l, digits-short b 3 (omega arith) m))

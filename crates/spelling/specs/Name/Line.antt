@@ -7,7 +7,8 @@ use lib.ListN.{length, length-append}
 use Rattle.text.specs.Written.{Wrote}
 use Rattle.text.specs.Written.Laws.{wrote-join, room-first}
 use Rattle.values.specs.declared.parameter.Parameter.{Parameter}
-use Rattle.spelling.specs.Name.Writing.{front, same-front, room-middle, room-third}
+use Rattle.spelling.specs.Name.{front}
+use Rattle.spelling.specs.Name.Writing.{same-front, room-middle, room-third}
 
 module _ (t : List ℕ) (p : Parameter) (text line l : List ℕ) (verb : ℕ) (parts : line ≡ front verb t p ++ (text ++ (0x0D ∷ []))) where
   pub wrote-out : (j i r : ℕ) (m n k : List ℕ) → Wrote l 0 (front verb t p) j m → Wrote m j text i n → Wrote n i (0x0D ∷ []) r k → Wrote l 0 line r k

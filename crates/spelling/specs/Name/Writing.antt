@@ -10,16 +10,12 @@ use Rattle.room.specs.Label.{label}
 use Rattle.room.specs.Label.Length.{label-part, label-place}
 use Rattle.room.specs.declared.table.Module.{Module}
 use Rattle.values.specs.declared.parameter.Parameter.{Parameter}
-use Rattle.spelling.specs.Name.{name}
+use Rattle.spelling.specs.Name.{front, name}
 use Rattle.spelling.specs.IndexText.{indexText}
 
 -- a module's label between quotes
 unfoldable pub quotedText : List ℕ → Module → List ℕ
 quotedText t m = 0x22 ∷ (label t m ++ (0x22 ∷ []))
-
--- what stands before the value: the verb, by its first byte, the name and `=`
-unfoldable pub front : ℕ → List ℕ → Parameter → List ℕ
-front verb t p = verb ∷ 0x41 ∷ (name t p ++ (0x3D ∷ []))
 
 -- ---- three texts, one behind the other
 

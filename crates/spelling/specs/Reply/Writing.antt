@@ -13,7 +13,7 @@ use Rattle.values.specs.declared.parameter.Parameter.{Parameter}
 use Rattle.spelling.specs.Text.{replyText}
 use Rattle.spelling.specs.Reply.{getReply}
 use Rattle.spelling.specs.Name.Line.{out-first, out-second, out-third, wrote-out}
-use Rattle.spelling.specs.Name.Writing.{front}
+use Rattle.spelling.specs.Name.{front}
 
 -- ---- the answer to a get line
 

@@ -11,9 +11,8 @@ use mir.Facts.{toZ-ofZ}
 use Rattle.text.specs.Level.Sign.{kept}
 use Rattle.text.specs.Written.{Wrote}
 use Rattle.values.specs.declared.parameter.Parameter.{Parameter}
-use Rattle.spelling.specs.Name.{name}
+use Rattle.spelling.specs.Name.{front, name}
 use Rattle.spelling.specs.Name.Line.{out-first, out-second, out-third, wrote-out}
-use Rattle.spelling.specs.Name.Writing.{front}
 use Rattle.spelling.specs.Text.{setText}
 use Rattle.spelling.specs.Say.{say}
 

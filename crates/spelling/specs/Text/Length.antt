@@ -1,30 +1,21 @@
 -- How long a value's text is: a rule for each kind.
-use mathlib.Core.Path.{_≡_, refl}
-use Prim.Native.Nat.{ℕ, _/_, _%_, _≤_, _<_, _^_}
+use mathlib.Core.Path.{_≡_, sym}
+use Prim.Native.Nat.{ℕ, _≤_, _<_, _^_}
 use native.Mathlib.Omega.{arith}
 use lib.IntN.{ℤ, natAbs}
-use lib.ListN.{length, length-append}
+use lib.ListN.{length}
 use mir.Syntax.{w64}
 use mir.Val.{SFits}
 use mir.Facts.{toZ-ofZ}
 use Rattle.text.specs.Digits.{digits}
 use Rattle.text.specs.Digits.Value.{digits-short}
-use Rattle.text.specs.Level.{wholeText, levelText}
-use Rattle.text.specs.Level.Laws.{sign-short}
-use Rattle.text.specs.Level.Told.{tenth-short}
+use Rattle.text.specs.Level.{levelText}
+use Rattle.text.specs.Level.Length.{level-short}
 use Rattle.text.specs.Level.Sign.{kept, kept-size-fits}
-use Rattle.text.specs.Switch.{switchText}
+use Rattle.text.specs.Switch.Laws.{switch-length}
 use Rattle.catalogue.specs.declared.row.Kind.{Kind}
 use Rattle.catalogue.specs.declared.row.Kind.the-variants as kind
 use Rattle.spelling.specs.Text.{setText, textOf}
-
-level-short : (v : ℤ) → natAbs v < 2 ^ 64 → length (levelText v) ≤ 23
-unfolding levelText wholeText
-level-short v l =
-    let s = sign-short v in
-    let d = digits-short (natAbs v / 10) 20 (omega arith) (omega arith) in
-    let t = tenth-short (natAbs v % 10) in
-    simp length-append (omega arith)
 
 module _ (k : Kind) (v : ℤ) (r : ℕ) (f : SFits w64 v) where
   pub level-text-is : k ≡ kind.Level → r ≡ length (levelText (kept v)) → r ≡ length (setText k v)
@@ -45,7 +36,7 @@ module _ (k : Kind) (v : ℤ) (r : ℕ) (f : SFits w64 v) where
       omega arith
 
 pub switch-text-is : (k : Kind) (v : ℤ) → k ≡ kind.Switch → 1 ≡ length (setText k v)
-unfolding textOf switchText
-switch-text-is k v e = rw e refl
+unfolding textOf
+switch-text-is k v e = rw e (sym (switch-length (natAbs v)))
 
 pub ruleset text-lengths = (level-text-is, level-text-short, number-text-is, number-text-short, switch-text-is)

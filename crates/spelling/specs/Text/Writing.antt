@@ -1,17 +1,17 @@
 -- How a value is written: a rule for each call and each return. A callee is handed the value as the code keeps it.
 use mathlib.Core.Path.{_≡_}
 use mathlib.Core.List.{List}
-use Prim.Native.Nat.{ℕ, _+_, _%_, _≤_}
+use Prim.Native.Nat.{ℕ, _+_, _≤_}
 use native.Mathlib.Omega.{arith}
 use lib.IntN.{ℤ, natAbs}
-use lib.ListN.{length, length-append}
+use lib.ListN.{length}
 use mir.Syntax.{w64}
 use mir.Val.{SFits}
 use mir.Facts.{toZ-ofZ}
 use Rattle.text.specs.Digits.{digits}
 use Rattle.text.specs.Level.{levelText, oneDecimalText}
+use Rattle.text.specs.Level.Length.{decimal-longer}
 use Rattle.text.specs.Level.Sign.{kept}
-use Rattle.text.specs.Level.Told.{tenth-long, tenth-short}
 use Rattle.text.specs.Switch.{switchText}
 use Rattle.text.specs.Written.{Wrote}
 use Rattle.catalogue.specs.declared.row.Kind.{Kind}
@@ -19,14 +19,6 @@ use Rattle.catalogue.specs.declared.row.Kind.the-variants as kind
 use Rattle.spelling.specs.Text.{textOf, setText, replyText}
 
 -- ---- room for a level, in either text
-
--- one decimal makes no level's text shorter
-decimal-longer : (v : ℤ) → length (levelText v) ≤ length (oneDecimalText v)
-unfolding levelText oneDecimalText
-decimal-longer v =
-    let s = tenth-short (natAbs v % 10) in
-    let l = tenth-long (natAbs v % 10) in
-    simp length-append (omega arith)
 
 module _ (k : Kind) (v : ℤ) (at : ℕ) (f : SFits w64 v) (long : ℕ) (e : k ≡ kind.Level) where
   pub set-level-room : at + length (setText k v) ≤ long → at + length (levelText (kept v)) ≤ long

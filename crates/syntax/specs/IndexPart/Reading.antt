@@ -2,12 +2,12 @@
 use mathlib.Core.Path.{_≡_, refl, sym, _∙_}
 use mathlib.Core.List.{List, [], _∷_}
 use Prim.Native.Nat.{ℕ, suc, _+_, _-_, _<_, _≤_}
-use native.Mathlib.Numerals.{add-one}
 use native.Mathlib.Omega.{arith}
-use borrow.Author.Tests.{eq-eqb, ne-eqb, lt-ltb, le-ltb}
-use lib.ListN.{length, getD, take, drop, length-take, length-drop}
+use borrow.Author.Tests.{eq-eqb, ne-eqb}
+use lib.ListN.{length, getD, take, drop, length-take}
 use lib.Seq.{take-all}
-use Rattle.text.specs.Cut.{indexOf, has, before, after}
+use Rattle.text.specs.Cut.{indexOf}
+use Rattle.text.specs.Cut.Found.{after-found, before-found, has-found, has-none}
 use Rattle.text.specs.Number.{readNumber}
 use Rattle.text.specs.declared.number.Number.{Number}
 use Rattle.text.specs.declared.number.Number.the-variants as read
@@ -56,14 +56,12 @@ cut-length s i l = simp length-take (omega arith)
 
 pub parted : (s : List ℕ) (i : ℕ) (r : IndexPart) → i ≡ indexOf 0x3E s → i < length s
     → r ≡ twoGroups (readNumber 3 (take i s)) (readNumber 3 (take (length s - (i + 1)) (drop (i + 1) s))) → r ≡ groups s
-unfolding groups has before after
-parted s i r e l h =
-    let n : length (drop (i + 1) s) ≤ length s - (i + 1) = simp length-drop (omega arith) in
-    h ∙ rw (take-all (length s - (i + 1)) (drop (i + 1) s) n, ← e, lt-ltb i (length s) l, add-one)
+unfolding groups
+parted s i r e l h = h ∙ rw (has-found 0x3E s i e l, before-found 0x3E s i e, after-found 0x3E s i e)
 
 pub whole : (s : List ℕ) (i : ℕ) (r : IndexPart) → i ≡ indexOf 0x3E s → length s ≤ i → r ≡ oneGroup (readNumber 3 s) → r ≡ groups s
-unfolding groups has
-whole s i r e l h = h ∙ rw (← e, le-ltb i (length s) l)
+unfolding groups
+whole s i r e l h = h ∙ rw (has-none 0x3E s i e l)
 
 pub ruleset groups-rules = (cut-length, parted, whole)
 

@@ -1,18 +1,17 @@
 -- Laws of a line's shape: where the parts of a set line stand, and the shape of a line that is put together.
 use mathlib.Core.Path.{_≡_, refl, _∙_}
 use mathlib.Core.Bool.{Bool, true, false, cond}
-use mathlib.Core.List.{List, _∷_, _++_}
-use Prim.Native.Nat.{ℕ, suc, _+_, _-_, _≤_, _<_}
-use native.Mathlib.Nat.{add-zero}
+use mathlib.Core.List.{List, [], _∷_, _++_, append-assoc}
+use Prim.Native.Nat.{ℕ, _+_, _≤_, _<_}
 use native.Mathlib.Omega.{arith}
 use borrow.Author.Tests.{ltb-true, ltb-false, lt-ltb, le-ltb}
 use lib.Dec.{eqb, ltb}
-use lib.ListN.{length, getD, drop, length-append}
-use lib.Seq.{take-at, take-length, drop-append-add}
-use Rattle.text.specs.Cut.{indexOf}
-use Rattle.text.specs.Cut.Lacking.{index-joined}
-use Rattle.room.specs.Label.{same}
-use Rattle.syntax.specs.Shape.{lineLimit, isSet, isGet, opening, firstFrom, closing, equals, getShape, setShape, quoted, shape, part}
+use lib.ListN.{length, getD, length-append}
+use Rattle.text.specs.Cut.{indexOf, part}
+use Rattle.text.specs.Cut.From.{from-after, from-joined}
+use Rattle.text.specs.Cut.Part.{part-last, part-middle}
+use Rattle.room.specs.Label.Match.{same-refl}
+use Rattle.syntax.specs.Shape.{lineLimit, isSet, isGet, opening, closing, equals, getShape, setShape, quoted, shape}
 use Rattle.syntax.specs.declared.shape.Shape.{Shape}
 use Rattle.syntax.specs.declared.shape.Shape.the-variants.{Malformed, Set}
 
@@ -38,7 +37,7 @@ after-verb line = go (eqb (getD line 2 0) 0x20)
     go false = omega arith
 
 set-told : (line : List ℕ) (o c e : ℕ) → length line ≤ 64 → setShape line ≡ Set o c e → Ordered line o c e
-unfolding setShape closing equals firstFrom
+unfolding setShape closing equals
 set-told line o c e s h = go (ltb (equals line) (length line)) refl h
   where
     go : (b : Bool) → ltb (equals line) (length line) ≡ b → cond b (Set (opening line) (closing line) (equals line)) Malformed ≡ Set o c e
@@ -49,6 +48,8 @@ set-told line o c e s h = go (ltb (equals line) (length line)) refl h
         let r : equals line ≡ e = cc in
         let l = ltb-true (equals line) (length line) t in
         let v = after-verb line in
+        let behind : opening line + 1 ≤ closing line = from-after 0x22 (opening line + 1) line in
+        let divided : closing line + 1 ≤ equals line = from-after 0x3D (closing line + 1) line in
         record { verb = omega arith; label = omega arith; indices = omega arith; ends = omega arith; short = s }
     go false t h = malformed o c e h
 
@@ -78,78 +79,68 @@ set-ordered line o c e h = go (ltb 64 (length line)) (isSet line) (isGet line) r
 
 -- ---- a set line put together
 
--- no space: label l, index part i, value text w
-unfoldable pub setLine : (l i w : List ℕ) → List ℕ
-setLine l i w = 0x53 ∷ 0x41 ∷ 0x22 ∷ (l ++ (0x22 ∷ (i ++ (0x3D ∷ w))))
+-- without a space: label l, index part i and value text w; the label has no quote, and the index part no `=`
+pub record SetLine (line l i w : List ℕ) : Type 0 where
+  pub bytes : line ≡ 0x53 ∷ 0x41 ∷ 0x22 ∷ (l ++ (0x22 ∷ (i ++ (0x3D ∷ w))))
+  pub unquoted : indexOf 0x22 l ≡ length l
+  pub undivided : indexOf 0x3D i ≡ length i
 
-pub set-line-length : (l i w : List ℕ) → length (setLine l i w) ≡ 5 + length l + length i + length w
-unfolding setLine
-set-line-length l i w = simp length-append (omega arith)
+module _ (line l i w : List ℕ) (h : SetLine line l i w) where
+  pub set-line-length : length line ≡ 5 + length l + length i + length w
+  set-line-length = rw (h .bytes) (simp length-append (omega arith))
 
--- what stands behind the second quote, and behind the `=`
-behind-label : (l u : List ℕ) (n : ℕ) → drop (3 + length l + n) (0x53 ∷ 0x41 ∷ 0x22 ∷ (l ++ u)) ≡ drop n u
-behind-label l u n =
-    let e : 3 + length l + n ≡ suc (suc (suc (length l + n))) = omega arith in
-    rw e (drop-append-add l u n)
+  -- what stands before the index part, and before the value text
+  abbrev named : List ℕ
+  named = 0x53 ∷ 0x41 ∷ 0x22 ∷ (l ++ (0x22 ∷ []))
 
-behind-quote : (l u : List ℕ) (n : ℕ) → drop (3 + length l + 1 + n) (0x53 ∷ 0x41 ∷ 0x22 ∷ (l ++ (0x22 ∷ u))) ≡ drop n u
-behind-quote l u n =
-    let e : 3 + length l + 1 + n ≡ 3 + length l + suc n = omega arith in
-    rw e (behind-label l (0x22 ∷ u) (suc n))
+  abbrev front : List ℕ
+  front = named ++ (i ++ (0x3D ∷ []))
 
-module _ (l i w : List ℕ) (unquoted : indexOf 0x22 l ≡ length l) (undivided : indexOf 0x3D i ≡ length i) where
-  opens : opening (setLine l i w) ≡ 2
-  unfolding opening setLine
-  opens = refl
+  named-length : length named ≡ 3 + length l + 1
+  named-length = simp length-append (omega arith)
 
-  pub set-line-closes : closing (setLine l i w) ≡ 3 + length l
-  unfolding closing firstFrom setLine
-  set-line-closes = rw (opens, index-joined 0x22 l (i ++ (0x3D ∷ w)) unquoted)
+  front-length : length front ≡ 3 + length l + 1 + length i + 1
+  front-length = simp length-append (omega arith)
 
-  set-line-rest : drop (3 + length l + 1) (setLine l i w) ≡ i ++ (0x3D ∷ w)
-  unfolding setLine
-  set-line-rest = rw add-zero at (behind-quote l (i ++ (0x3D ∷ w)) 0)
+  by-name : line ≡ named ++ (i ++ (0x3D ∷ w))
+  by-name = h .bytes ∙ simp append-assoc
 
-  pub set-line-divides : equals (setLine l i w) ≡ 3 + length l + 1 + length i
-  unfolding equals firstFrom
-  set-line-divides = rw (set-line-closes, set-line-rest, index-joined 0x3D i w undivided)
+  by-front : line ≡ front ++ w
+  by-front = by-name ∙ simp append-assoc
 
-  begins : isSet (setLine l i w) ≡ true
-  unfolding isSet setLine same
-  begins = refl
+  opens : opening line ≡ 2
+  unfolding opening
+  opens = rw (h .bytes)
 
-  quote-stands : eqb (getD (setLine l i w) 2 0) 0x22 ≡ true
-  unfolding setLine
-  quote-stands = refl
+  pub set-line-closes : closing line ≡ 3 + length l
+  unfolding closing
+  set-line-closes = rw (opens, h .bytes) (from-joined 0x22 (0x53 ∷ 0x41 ∷ 0x22 ∷ []) l (i ++ (0x3D ∷ w)) 3 refl (h .unquoted))
 
-  pub set-line-shape : length (setLine l i w) ≤ 64 → shape (setLine l i w) ≡ Set 2 (3 + length l) (3 + length l + 1 + length i)
+  pub set-line-divides : equals line ≡ 3 + length l + 1 + length i
+  unfolding equals
+  set-line-divides = rw (set-line-closes, by-name) (from-joined 0x3D named i w (3 + length l + 1) named-length (h .undivided))
+
+  begins : isSet line ≡ true
+  unfolding isSet
+  begins = rw (h .bytes) (same-refl (0x53 ∷ 0x41 ∷ []))
+
+  quote-stands : eqb (getD line 2 0) 0x22 ≡ true
+  quote-stands = rw (h .bytes)
+
+  pub set-line-shape : length line ≤ 64 → shape line ≡ Set 2 (3 + length l) (3 + length l + 1 + length i)
   unfolding shape lineLimit quoted setShape
   set-line-shape s =
-      let n = set-line-length l i w in
-      let a : ltb 64 (length (setLine l i w)) ≡ false = le-ltb 64 (length (setLine l i w)) s in
-      let b : ltb (3 + length l) (length (setLine l i w)) ≡ true = lt-ltb (3 + length l) (length (setLine l i w)) (omega arith) in
-      let d : ltb (3 + length l + 1 + length i) (length (setLine l i w)) ≡ true =
-      lt-ltb (3 + length l + 1 + length i) (length (setLine l i w)) (omega arith) in
+      let n = set-line-length in
+      let a : ltb 64 (length line) ≡ false = le-ltb 64 (length line) s in
+      let b : ltb (3 + length l) (length line) ≡ true = lt-ltb (3 + length l) (length line) (omega arith) in
+      let d : ltb (3 + length l + 1 + length i) (length line) ≡ true = lt-ltb (3 + length l + 1 + length i) (length line) (omega arith) in
       rw (a, begins, opens, quote-stands, set-line-closes, b, set-line-divides, d)
 
-  pub set-line-label : part (setLine l i w) (2 + 1) (3 + length l) ≡ l
-  unfolding part setLine
-  set-line-label = let e : 3 + length l - 3 ≡ length l = omega arith in rw e (take-at l (0x22 ∷ (i ++ (0x3D ∷ w))) (length l) refl)
+  pub set-line-label : part line (2 + 1) (3 + length l) ≡ l
+  set-line-label = rw (h .bytes) (part-middle (0x53 ∷ 0x41 ∷ 0x22 ∷ []) l (0x22 ∷ (i ++ (0x3D ∷ w))) 3 (3 + length l) refl refl)
 
-  pub set-line-indices : part (setLine l i w) (3 + length l + 1) (3 + length l + 1 + length i) ≡ i
-  unfolding part
-  set-line-indices =
-      let e : 3 + length l + 1 + length i - (3 + length l + 1) ≡ length i = omega arith in
-      rw (e, set-line-rest) (take-at i (0x3D ∷ w) (length i) refl)
+  pub set-line-indices : part line (3 + length l + 1) (3 + length l + 1 + length i) ≡ i
+  set-line-indices = rw by-name (part-middle named i (0x3D ∷ w) (3 + length l + 1) (3 + length l + 1 + length i) named-length refl)
 
-  set-line-end : drop (3 + length l + 1 + length i + 1) (setLine l i w) ≡ w
-  unfolding setLine
-  set-line-end =
-      let e : 3 + length l + 1 + length i + 1 ≡ 3 + length l + 1 + (length i + 1) = omega arith in
-      rw e (behind-quote l (i ++ (0x3D ∷ w)) (length i + 1) ∙ drop-append-add i (0x3D ∷ w) 1)
-
-  pub set-line-text : part (setLine l i w) (3 + length l + 1 + length i + 1) (length (setLine l i w)) ≡ w
-  unfolding part
-  set-line-text =
-      let e : length (setLine l i w) - (3 + length l + 1 + length i + 1) ≡ length w = omega (arith, set-line-length l i w) in
-      rw (e, set-line-end) (take-length w)
+  pub set-line-text : part line (3 + length l + 1 + length i + 1) (length line) ≡ w
+  set-line-text = rw by-front (part-last front w (3 + length l + 1 + length i + 1) (length (front ++ w)) front-length refl)

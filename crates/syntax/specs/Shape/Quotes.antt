@@ -9,7 +9,9 @@ use lib.Dec.{eqb, ltb}
 use lib.ListN.{length, getD, List·getD-eq-default}
 use mir.Syntax.{w64}
 use mir.Val.{Fits}
-use Rattle.syntax.specs.Shape.{opening, firstFrom, closing, equals, getShape, setShape, quoted}
+use Rattle.text.specs.Cut.{firstFrom}
+use Rattle.text.specs.Cut.From.{from-after}
+use Rattle.syntax.specs.Shape.{opening, closing, equals, getShape, setShape, quoted}
 use Rattle.syntax.specs.declared.shape.Quotes.{Quotes}
 use Rattle.syntax.specs.declared.shape.Quotes.the-variants.{At, Missing}
 use Rattle.syntax.specs.declared.shape.Shape.{Shape}
@@ -58,7 +60,7 @@ never-at {ℓ} : {A : Type ℓ} (o c : ℕ) → Missing ≡ At o c → A
 never-at o c h = absurd (let z : _≡_ {A = ℕ} 0 1 = cc in omega arith)
 
 pub quotes-at : (line : List ℕ) (o c : ℕ) → quotes line ≡ At o c → Between line o c
-unfolding quotes quoted closing firstFrom
+unfolding quotes quoted closing
 quotes-at line o c h = go (eqb (getD line (opening line) 0) 0x22) refl (ltb (closing line) (length line)) refl h
   where
     go : (s : Bool) → eqb (getD line (opening line) 0) 0x22 ≡ s → (t : Bool) → ltb (closing line) (length line) ≡ t
@@ -67,6 +69,7 @@ quotes-at line o c h = go (eqb (getD line (opening line) 0) 0x22) refl (ltb (clo
         let p : opening line ≡ o = cc in
         let q : closing line ≡ c = cc in
         let l = ltb-true (closing line) (length line) t in
+        let behind : opening line + 1 ≤ closing line = from-after 0x22 (opening line + 1) line in
         record { opened = p; closed = q; ordered = omega arith; ends = omega arith; shapes = λ x. rw (s, t) }
     go true s false t h = never-at o c h
     go false s t e h = never-at o c h

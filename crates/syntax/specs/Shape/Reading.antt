@@ -1,45 +1,21 @@
 -- Rules for the code that finds a line's shape.
-use mathlib.Core.Path.{_≡_, refl, sym, _∙_, ap}
-use mathlib.Core.Bool.{Bool, true, false, cond, _&&_, and-false}
+use mathlib.Core.Path.{_≡_, refl, sym, _∙_}
+use mathlib.Core.Bool.{Bool, true, false, cond}
 use mathlib.Core.List.{List, [], _∷_}
-use Prim.Native.Nat.{ℕ, _+_, _-_, _<_, _≤_}
+use Prim.Native.Nat.{ℕ, _<_, _≤_}
 use native.Mathlib.Omega.{arith}
 use borrow.Author.Tests.{eq-eqb, ne-eqb, leb-true, lt-ltb, le-ltb}
 use lib.Dec.{eqb, leb, ltb}
-use lib.ListN.{length, getD, take, drop, length-drop}
-use lib.Seq.{take-all}
-use mir.Syntax.{w64}
-use mir.Val.{Fits}
-use Rattle.text.specs.Cut.{indexOf}
+use lib.ListN.{length, getD, take}
 use Rattle.room.specs.Label.{same}
-use Rattle.syntax.specs.Shape.{lineLimit, isSet, isGet, opening, firstFrom, closing, equals, getShape, setShape, quoted, shape}
+use Rattle.room.specs.Label.Match.{same-not, same-refl}
+use Rattle.syntax.specs.Shape.{lineLimit, isSet, isGet, opening, closing, equals, getShape, setShape, quoted, shape}
 use Rattle.syntax.specs.Shape.Quotes.{Between, no-place, quotes, quotes-at, quotes-missing}
 use Rattle.syntax.specs.declared.shape.Quotes.{Quotes}
 use Rattle.syntax.specs.declared.shape.Quotes.the-variants.{At, Missing}
 use Rattle.syntax.specs.declared.shape.Shape.{Shape}
 use Rattle.syntax.specs.declared.shape.Shape.the-variants.{Malformed, Get, Set}
-use Rattle.text.specs.Cut.Laws.{index-within}
 use Rattle.syntax.specs.Shape.Laws.{after-verb}
-
--- ---- a byte sought from a place on
-
-module _ (b from i : ℕ) (line : List ℕ) (l : from ≤ length line) (e : i ≡ indexOf b (take (length line - from) (drop from line))) where
-  sought : i ≡ indexOf b (drop from line)
-  sought =
-      let n : length (drop from line) ≤ length line - from = simp length-drop (omega arith) in
-      rw (take-all (length line - from) (drop from line) n) at e
-
-  sought-within : from + i ≤ length line
-  sought-within = omega (arith, sought, index-within b (drop from line), length-drop from line)
-
-  pub sought-fits : length line < 18446744073709551616 → Fits w64 (from + i)
-  sought-fits m = let w = sought-within in record { fits = omega arith }
-
-  pub found-from : from + i ≡ firstFrom b from line
-  unfolding firstFrom
-  found-from = ap (λ n. from + n) sought
-
-pub ruleset from-rules = (sought-fits, found-from)
 
 -- ---- the opening quote
 
@@ -79,28 +55,29 @@ too-short line h = at-any-length line _ (go (isSet line) (isGet line))
     go false true = none (getShape line)
     go false false = refl
 
--- the first two bytes
-verb-is : (line : List ℕ) (a b : ℕ) → 2 < length line → same (take 2 line) (a ∷ b ∷ []) ≡ (eqb (getD line 0 0) a && (eqb (getD line 1 0) b && true))
-unfolding same
-verb-is [] a b h = absurd (omega arith)
-verb-is (x ∷ []) a b h = absurd (omega arith)
-verb-is (x ∷ y ∷ s) a b h = refl
+first-two : (line : List ℕ) → 2 < length line → take 2 line ≡ getD line 0 0 ∷ getD line 1 0 ∷ []
+first-two [] h = absurd (omega arith)
+first-two (x ∷ []) h = absurd (omega arith)
+first-two (x ∷ y ∷ s) h = refl
 
 module _ (line : List ℕ) (long : 2 < length line) where
+  verb-is : (a b : ℕ) → getD line 0 0 ≡ a → getD line 1 0 ≡ b → same (take 2 line) (a ∷ b ∷ []) ≡ true
+  verb-is a b p q = rw (first-two line long, p, q) (same-refl (a ∷ b ∷ []))
+
+  verb-not : (a b : ℕ) → (getD line 0 0 ≡ a → getD line 1 0 ≡ b → ⊥) → same (take 2 line) (a ∷ b ∷ []) ≡ false
+  verb-not a b n = same-not (take 2 line) (a ∷ b ∷ []) (λ e. let f = sym (first-two line long) ∙ e in n (cc) (cc))
+
   no-verb : isSet line ≡ false → isGet line ≡ false → Malformed ≡ shape line
   unfolding shape
   no-verb e f = at-any-length line _ (rw (e, f))
 
   pub other-letter : (getD line 1 0 ≡ 0x41 → ⊥) → Malformed ≡ shape line
   unfolding isSet isGet
-  other-letter n =
-      let e = ne-eqb (getD line 1 0) 0x41 n in
-      no-verb (verb-is line 0x53 0x41 long ∙ rw e (and-false (eqb (getD line 0 0) 0x53))) (verb-is line 0x47 0x41 long ∙ rw e (and-false (eqb (getD line 0 0) 0x47)))
+  other-letter n = no-verb (verb-not 0x53 0x41 (λ p q. n q)) (verb-not 0x47 0x41 (λ p q. n q))
 
   pub other-verb : (getD line 0 0 ≡ 0x53 → ⊥) → (getD line 0 0 ≡ 0x47 → ⊥) → Malformed ≡ shape line
   unfolding isSet isGet
-  other-verb n m =
-      no-verb (verb-is line 0x53 0x41 long ∙ rw (ne-eqb (getD line 0 0) 0x53 n)) (verb-is line 0x47 0x41 long ∙ rw (ne-eqb (getD line 0 0) 0x47 m))
+  other-verb n m = no-verb (verb-not 0x53 0x41 (λ p q. n p)) (verb-not 0x47 0x41 (λ p q. m p))
 
   module _ (short : length line ≤ 64) (e : getD line 1 0 ≡ 0x41) (r : Shape) where
     verb : (a b : Bool) → isSet line ≡ a → isGet line ≡ b
@@ -110,11 +87,11 @@ module _ (line : List ℕ) (long : 2 < length line) where
 
     pub verb-set : getD line 0 0 ≡ 0x53 → r ≡ quoted line (setShape line) → r ≡ shape line
     unfolding isSet
-    verb-set f h = h ∙ sym (verb true (isGet line) (verb-is line 0x53 0x41 long ∙ rw (f, e)) refl)
+    verb-set f h = h ∙ sym (verb true (isGet line) (verb-is 0x53 0x41 f e) refl)
 
     pub verb-get : (getD line 0 0 ≡ 0x53 → ⊥) → getD line 0 0 ≡ 0x47 → r ≡ quoted line (getShape line) → r ≡ shape line
     unfolding isSet isGet
-    verb-get n f h = h ∙ sym (verb false true (verb-is line 0x53 0x41 long ∙ rw (ne-eqb (getD line 0 0) 0x53 n)) (verb-is line 0x47 0x41 long ∙ rw (f, e)))
+    verb-get n f h = h ∙ sym (verb false true (verb-not 0x53 0x41 (λ p q. n p)) (verb-is 0x47 0x41 f e))
 
 pub ruleset shape-rules = (too-long, too-short, other-letter, other-verb, verb-set, verb-get)
 

@@ -1,14 +1,13 @@
 -- Rules for the code that reads a value text; a signed local is read back from its bits.
 use mathlib.Core.Path.{_≡_, refl, sym, _∙_, ap}
-use mathlib.Core.Bool.{Bool, true, false, cond, _&&_}
+use mathlib.Core.Bool.{Bool, true, false, cond}
 use mathlib.Core.List.{List}
-use Prim.Native.Nat.{ℕ, zero, suc, _+_, _%_, _^_, _<_, _≤_}
+use Prim.Native.Nat.{ℕ, zero, suc, _+_, _^_, _<_, _≤_}
 use native.Mathlib.Nat.{pow-le-pow-right}
 use native.Mathlib.Omega.{arith}
 use borrow.Author.Tests.{lt-ltb, not-true, not-false}
-use lib.Dec.{eqb}
 use lib.IntN.{ℤ, pos, negsuc, natAbs, _-ℤ_}
-use lib.Signed.{leZ, mag}
+use lib.Signed.{mag}
 use mir.Facts.{toZ-ofZ, toZ-pos}
 use mir.Syntax.{w64}
 use mir.Val.{SFits, toZ}
@@ -23,14 +22,17 @@ use Rattle.text.specs.declared.number.Number.{Number}
 use Rattle.text.specs.declared.number.Number.the-variants as number
 use Rattle.text.specs.declared.switch.Switch.{Switch}
 use Rattle.text.specs.declared.switch.Switch.the-variants as switch
-use Rattle.text.specs.Every.Laws.{both-left, both-right}
 use Rattle.catalogue.specs.Row.{permitted}
-use Rattle.catalogue.specs.Row.Laws.{RowFits, bits, between, value-bits}
+use Rattle.catalogue.specs.Row.{RowFits}
+use Rattle.catalogue.specs.Row.Laws.{bits, value-bits}
+use Rattle.catalogue.specs.Row.Near.{permitted-bits, permitted-near}
 use Rattle.catalogue.specs.declared.row.Row.{Row}
 use Rattle.catalogue.specs.declared.row.Kind.{Kind}
 use Rattle.catalogue.specs.declared.row.Kind.the-variants as kind
 use Rattle.syntax.specs.Value.{ofLevel, ofNumber, ofSwitch, readKind, onlyPermitted, readValue}
-use Rattle.syntax.specs.Value.Laws.{value-back, wrong-value}
+use Rattle.syntax.specs.Value.Laws.{value-back}
+use Rattle.syntax.specs.Value.Says as told
+use Rattle.syntax.specs.Value.Says.{Says, kind-told}
 use Rattle.syntax.specs.declared.value_text.ValueText.{ValueText}
 use Rattle.syntax.specs.declared.value_text.ValueText.the-variants.{Value, Wrong}
 
@@ -128,42 +130,16 @@ pub ruleset kind-rules = (still-near, kind-level, kind-switch, kind-number)
 
 -- ---- the row
 
--- a permitted value is as near to 0 as its row's bounds
-pub permitted-near : (r : Row) (v : ℤ) → RowFits r → permitted r v ≡ true → mag v < 2 ^ 62
-unfolding permitted
-permitted-near r v fit h =
-    let on-step = eqb (natAbs (v -ℤ r .low) % r .step) 0 in
-    let inside = both-left (leZ (r .low) v && leZ v (r .high)) on-step h in
-    let over = both-left (leZ (r .low) v) (leZ v (r .high)) inside in
-    let under = both-right (leZ (r .low) v) (leZ v (r .high)) inside in
-    between (2 ^ 62) (r .low) v (r .high) (fit .low-fits) (fit .high-fits) over under
-
-pub permitted-bits : (r : Row) (v : ℤ) → RowFits r → permitted r v ≡ true → bits v ≡ v
-permitted-bits r v fit h = value-bits v (permitted-near r v fit h)
-
 -- what a kind's text says fits
-level-within : (s : List ℕ) (v : ℤ) (l : Level) → readLevel s ≡ l → ofLevel l ≡ Value v → SFits w64 v
-unfolding ofLevel
-level-within s v (level.Tenths x) e h = let q : x ≡ v = cc in rw q at (level-fits s x e)
-level-within s v level.Wrong e h = wrong-value v h
-
-number-within : (s : List ℕ) (v : ℤ) (m : Number) → readNumber 5 s ≡ m → ofNumber m ≡ Value v → SFits w64 v
-unfolding ofNumber
-number-within s v (number.Value n) e h = let q : pos n ≡ v = cc in rw q at (number-fits 5 s (number.Value n) n (sym e) refl (omega arith))
-number-within s v number.Wrong e h = wrong-value v h
-
-switch-within : (present v : ℤ) (w : Switch) → mag present < 2 ^ 62 → ofSwitch present w ≡ Value v → SFits w64 v
-unfolding ofSwitch
-switch-within present v switch.On near h = let q : pos 1 ≡ v = cc in rw (← q) (record { sfits = omega arith })
-switch-within present v switch.Off near h = let q : pos 0 ≡ v = cc in rw (← q) (record { sfits = omega arith })
-switch-within present v switch.Turn near h = let q : pos 1 -ℤ present ≡ v = cc in rw (← q) (turn-fits present near)
-switch-within present v switch.Wrong near h = wrong-value v h
-
 kind-within : (k : Kind) (present v : ℤ) (s : List ℕ) → mag present < 2 ^ 62 → readKind k present s ≡ Value v → SFits w64 v
-unfolding readKind
-kind-within kind.Level present v s near h = level-within s v (readLevel s) refl h
-kind-within kind.Switch present v s near h = switch-within present v (readSwitch s) near h
-kind-within kind.Number present v s near h = number-within s v (readNumber 5 s) refl h
+kind-within k present v s near h = go (kind-told present v s k h)
+  where
+    go : {k : Kind} {v : ℤ} → Says present s k v → SFits w64 v
+    go (told.level v e) = level-fits s v e
+    go (told.number n e) = number-fits 5 s (number.Value n) n (sym e) refl (omega arith)
+    go (told.on e) = record { sfits = omega arith }
+    go (told.off e) = record { sfits = omega arith }
+    go (told.turned e) = turn-fits present near
 
 module _ (r : Row) (present : ℤ) (s : List ℕ) where
   pub not-settable : r .settable ≡ false → Wrong ≡ readValue r present s

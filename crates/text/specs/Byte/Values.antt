@@ -86,6 +86,15 @@ switch-bytes n = letter-bytes (eqb n 0)
 pub no-other : (b : ℕ) (s : List ℕ) → valueByte b ≡ false → every valueByte s ≡ true → indexOf b s ≡ length s
 no-other b s n h = index-none valueByte b s h n
 
+-- 0D, and `=`
+pub return-other : valueByte 0x0D ≡ false
+unfolding valueByte isDigit
+return-other = refl
+
+pub equals-other : valueByte 0x3D ≡ false
+unfolding valueByte isDigit
+equals-other = refl
+
 -- ---- they are bytes
 
 below-256 : (b : ℕ) → valueByte b ≡ true → isByte b ≡ true

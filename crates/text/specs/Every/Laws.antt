@@ -28,6 +28,18 @@ pub both : (a b : Bool) → (a && b) ≡ true → (a ≡ true) × (b ≡ true)
 both a b e = (both-left a b e, both-right a b e)
 
 module _ {A : Type 0} where
+  -- the test of a list, element by element
+  pub every-nil : (test : A → Bool) → every test [] ≡ true
+  unfolding every
+  every-nil test = refl
+
+  pub every-cons : (test : A → Bool) (a : A) (l : List A) → every test (a ∷ l) ≡ (test a && every test l)
+  unfolding every
+  every-cons test a l = refl
+
+  pub every-more : (test : A → Bool) (a : A) (l : List A) → test a ≡ true → every test l ≡ true → every test (a ∷ l) ≡ true
+  every-more test a l p q = rw (every-cons test a l, p) q
+
   pub every-both : (test : A → Bool) (a : A) (l : List A) → every test (a ∷ l) ≡ true → (test a ≡ true) × (every test l ≡ true)
   unfolding every
   every-both test a l e = both (test a) (every test l) e
@@ -49,6 +61,19 @@ module _ {A : Type 0} where
   every-at test [] d e i h = absurd (not-suc-le-zero h)
   every-at test (a ∷ l) d e zero h = both-left (test a) (every test l) e
   every-at test (a ∷ l) d e (suc i) h = every-at test l d (both-right (test a) (every test l) e) i (le-of-suc-le-suc h)
+
+  -- the test of a list's pairs, element by element
+  pub pairs-nil : (test : A → A → Bool) → pairs test [] ≡ true
+  unfolding pairs
+  pairs-nil test = refl
+
+  pub pairs-both : (test : A → A → Bool) (a : A) (l : List A) → pairs test (a ∷ l) ≡ true → (every (test a) l ≡ true) × (pairs test l ≡ true)
+  unfolding pairs
+  pairs-both test a l e = both (every (test a) l) (pairs test l) e
+
+  pub pairs-more : (test : A → A → Bool) (a : A) (l : List A) → every (test a) l ≡ true → pairs test l ≡ true → pairs test (a ∷ l) ≡ true
+  unfolding pairs
+  pairs-more test a l p q = rw p q
 
   pub pairs-at : (test : A → A → Bool) (l : List A) (d : A) → pairs test l ≡ true → (i j : ℕ) → i < j → j < length l → test (getD l i d) (getD l j d) ≡ true
   unfolding pairs

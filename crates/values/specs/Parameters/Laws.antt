@@ -7,8 +7,8 @@ use native.Mathlib.Numerals.{add-one}
 use native.Mathlib.Omega.{arith}
 use lib.ListN.{length, getD, drop}
 use lib.Seq.{drop-cons}
-use Rattle.catalogue.specs.Catalogue.{rowsOf}
-use Rattle.catalogue.specs.Catalogue.Rules.{noRow, rowOf}
+use Rattle.catalogue.specs.Catalogue.{rowOf, rowsOf}
+use Rattle.catalogue.specs.Catalogue.Laws.{rows-at}
 use Rattle.values.specs.Parameters.{numbered, parameterAt, parametersOf}
 use Rattle.catalogue.specs.declared.row.Row.{Row}
 use Rattle.room.specs.declared.table.Module.{Module}
@@ -28,7 +28,7 @@ pub length-parametersOf : (m : Module) → length (parametersOf m) ≡ length (r
 unfolding parametersOf
 length-parametersOf m = length-numbered m 0 (rowsOf (m .kind))
 
-numbered-at : (m : Module) (n : ℕ) (rs : List Row) (d : Parameter) (j : ℕ) → j < length rs → getD (numbered m n rs) j d ≡ record { owner = m; number = n + j; row = getD rs j noRow }
+numbered-at : (m : Module) (n : ℕ) (rs : List Row) (d : Parameter) (j : ℕ) → j < length rs → getD (numbered m n rs) j d ≡ record { owner = m; number = n + j; row = getD rs j (d .row) }
 unfolding numbered
 numbered-at m n [] d j h = absurd (not-suc-le-zero h)
 numbered-at m n (r ∷ rs) d zero h = rw add-zero
@@ -37,8 +37,8 @@ numbered-at m n (r ∷ rs) d (suc j) h =
     numbered-at m (n + 1) rs d j (le-of-suc-le-suc h) ∙ rw e
 
 pub parametersOf-at : (m : Module) (d : Parameter) (j : ℕ) → j < length (rowsOf (m .kind)) → getD (parametersOf m) j d ≡ parameterOf m j
-unfolding parametersOf rowOf
-parametersOf-at m d j h = numbered-at m 0 (rowsOf (m .kind)) d j h ∙ rw zero-add
+unfolding parametersOf
+parametersOf-at m d j h = numbered-at m 0 (rowsOf (m .kind)) d j h ∙ rw (zero-add, rows-at (m .kind) j (d .row) h)
 
 pub parametersOf-cons : (m : Module) (j : ℕ) → j < length (rowsOf (m .kind)) → drop j (parametersOf m) ≡ parameterOf m j ∷ drop (j + 1) (parametersOf m)
 parametersOf-cons m j h =

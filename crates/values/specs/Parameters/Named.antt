@@ -4,11 +4,10 @@ use mathlib.Core.Bool.{Bool, true, false, cond}
 use mathlib.Core.List.{List, [], _∷_}
 use Prim.Native.Nat.{ℕ, zero, suc, _+_}
 use native.Mathlib.Nat.{zero-add}
-use borrow.Author.Tests.{not-true}
 use Rattle.catalogue.specs.Catalogue.{rowsOf}
-use Rattle.text.specs.Every.Laws.{both-left, both-right}
+use Rattle.text.specs.Every.Laws.{every-both, pairs-both}
 use Rattle.text.specs.Every.{every, pairs}
-use Rattle.catalogue.specs.Catalogue.Distinct.{rowsDiffer, type-distinct}
+use Rattle.catalogue.specs.Catalogue.Distinct.{differ-indices, rowsDiffer, type-distinct}
 use Rattle.catalogue.specs.Catalogue.Sized.{sizedRow, type-sized}
 use Rattle.catalogue.specs.Row.{sameIndices}
 use Rattle.catalogue.specs.Row.Comparing.{same-indices, same-indices-refl}
@@ -60,24 +59,24 @@ named-told m i p e =
 
 pub row-at : (test : Row → Bool) (m : Module) (n : ℕ) (rs : List Row) (j : ℕ) (p : Parameter) → every test rs ≡ true
     → parameterAt (numbered m n rs) j ≡ At p → test (p .row) ≡ true
-unfolding numbered parameterAt every
+unfolding numbered parameterAt
 row-at test m n [] j p h e = never-found p e
 row-at test m n (r ∷ rs) zero p h e =
-    ap (λ q. test (q .row)) (sym (found-same (record { owner = m; number = n; row = r }) p e)) ∙ both-left (test r) (every test rs) h
-row-at test m n (r ∷ rs) (suc j) p h e = row-at test m (n + 1) rs j p (both-right (test r) (every test rs) h) e
+    ap (λ q. test (q .row)) (sym (found-same (record { owner = m; number = n; row = r }) p e)) ∙ every-both test r rs h .0
+row-at test m n (r ∷ rs) (suc j) p h e = row-at test m (n + 1) rs j p (every-both test r rs h .1) e
 
 with-indices-back : (m : Module) (n : ℕ) (rs : List Row) (j : ℕ) (p : Parameter) → pairs rowsDiffer rs ≡ true
     → parameterAt (numbered m n rs) j ≡ At p → withIndices (p .row .indices) (numbered m n rs) ≡ At p
-unfolding numbered withIndices parameterAt pairs rowsDiffer
+unfolding numbered withIndices parameterAt
 with-indices-back m n [] j p h e = never-found p e
 with-indices-back m n (r ∷ rs) zero p h e =
     let s : r .indices ≡ p .row .indices = ap (λ q. q .row .indices) (found-same (record { owner = m; number = n; row = r }) p e) in
     let t : sameIndices (r .indices) (p .row .indices) ≡ true = ap (λ i. sameIndices i (p .row .indices)) s ∙ same-indices-refl (p .row .indices) in
     rw t e
 with-indices-back m n (r ∷ rs) (suc j) p h e =
-    let d = row-at (rowsDiffer r) m (n + 1) rs j p (both-left (every (rowsDiffer r) rs) (pairs rowsDiffer rs) h) e in
-    rw (not-true (sameIndices (r .indices) (p .row .indices)) d)
-    (with-indices-back m (n + 1) rs j p (both-right (every (rowsDiffer r) rs) (pairs rowsDiffer rs) h) e)
+    let k = pairs-both rowsDiffer r rs h in
+    let d = row-at (rowsDiffer r) m (n + 1) rs j p (k .0) e in
+    rw (differ-indices r (p .row) d) (with-indices-back m (n + 1) rs j p (k .1) e)
 
 pub named-back : (m : Module) (j : ℕ) (p : Parameter) → parameterAt (parametersOf m) j ≡ At p → named m (p .row .indices) ≡ At p
 unfolding named parametersOf

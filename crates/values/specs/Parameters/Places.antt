@@ -4,12 +4,12 @@ use mathlib.Core.List.{List, [], _∷_, _++_}
 use Prim.Native.Nat.{ℕ, zero, suc, _+_}
 use native.Mathlib.Nat.{add-zero, zero-add}
 use native.Mathlib.Omega.{arith}
-use lib.ListN.{length, drop}
+use lib.ListN.{length}
 use Rattle.catalogue.specs.Catalogue.{rowsOf}
 use Rattle.values.specs.Parameters.{numbered, parametersOf, parametersIn, parameters, place, parameterAt}
 use Rattle.values.specs.Parameters.Laws.{length-parametersOf, parameter-late}
-use Rattle.room.specs.Table.{moduleAt, modules, modulesFrom, recordLimit}
-use Rattle.record.specs.Body.{bodyLength}
+use Rattle.room.specs.Table.{moduleAt, modules}
+use Rattle.room.specs.Table.Modules.{at-first, at-others, modules-induction, no-module, the-first}
 use Rattle.catalogue.specs.declared.row.Row.{Row}
 use Rattle.room.specs.declared.table.Module.{Module}
 use Rattle.room.specs.declared.table.ModuleFound.the-variants as table
@@ -77,49 +77,42 @@ pub record Placed (ms : List Module) (k : ℕ) (p : Parameter) : Type 0 where
 
 -- a parameter of the first module, and of a later one
 placed-first : (m : Module) (ms : List Module) (k : ℕ) (p : Parameter) → parameterAt (parametersOf m) k ≡ At p → Placed (m ∷ ms) (m .first + k) p
-unfolding place moduleAt
+unfolding place
 placed-first m ms k p e =
     let h = at-own m k p e in
-    record { stands = rw (h .owner, h .number) refl; own = cc; module-number = 0; among = ap table.At (sym (h .owner)) }
+    record { stands = rw (h .owner, h .number) refl; own = cc; module-number = 0; among = at-first m ms ∙ ap table.At (sym (h .owner)) }
 
 placed-later : (m : Module) (ms : List Module) (k : ℕ) (p : Parameter) → Placed ms k p → Placed (m ∷ ms) k p
-unfolding moduleAt
-placed-later m ms k p h = record { stands = h .stands; own = h .own; module-number = suc (h .module-number); among = h .among }
+placed-later m ms k p h =
+    record { stands = h .stands; own = h .own; module-number = suc (h .module-number); among = at-others m ms (h .module-number) ∙ h .among }
 
-in-records : (left number place first : ℕ) (t : List ℕ) (k : ℕ) (p : Parameter)
-    → parameterAt (parametersIn (modulesFrom left number place first t)) k ≡ At p → Placed (modulesFrom left number place first t) (first + k) p
-unfolding modulesFrom parametersIn parameterAt
-in-records zero number place first t k p e = never-found p e
-in-records (suc left) number place first [] k p e = never-found p e
-in-records (suc left) number place first (kind ∷ t) k p e =
-    go (at-side (parametersOf m) (parametersIn ms) k p e)
-    (λ j. in-records left (number + 1) (place + 1 + bodyLength kind) (first + length (rowsOf kind)) (drop (bodyLength kind) t) j p)
+-- each parameter of some modules, whose values begin at a number
+abbrev AllPlaced : (first : ℕ) → List Module → Type 0
+AllPlaced first ms = (k : ℕ) (p : Parameter) → parameterAt (parametersIn ms) k ≡ At p → Placed ms (first + k) p
+
+placed-none : (first : ℕ) → AllPlaced first []
+unfolding parametersIn parameterAt
+placed-none first k p e = never-found p e
+
+placed-more : (m : Module) (ms : List Module) → AllPlaced (m .first + length (rowsOf (m .kind))) ms → AllPlaced (m .first) (m ∷ ms)
+unfolding parametersIn
+placed-more m ms below k p e = go (at-side (parametersOf m) (parametersIn ms) k p e)
   where
-    m : Module
-    m = record { number = number; place = place; kind = kind; first = first }
-
-    ms : List Module
-    ms = modulesFrom left (number + 1) (place + 1 + bodyLength kind) (first + length (rowsOf kind)) (drop (bodyLength kind) t)
-
-    go : Side (parametersOf m) (parametersIn ms) k p
-        → ((j : ℕ) → parameterAt (parametersIn ms) j ≡ At p → Placed ms (first + length (rowsOf kind) + j) p) → Placed (m ∷ ms) (first + k) p
-    go (earlier h) below = placed-first m ms k p h
-    go (later j n h) below =
-        let e : first + length (rowsOf kind) + j ≡ first + k = omega (arith, length-parametersOf m) in
-        placed-later m ms (first + k) p (rw e at (below j h))
+    go : Side (parametersOf m) (parametersIn ms) k p → Placed (m ∷ ms) (m .first + k) p
+    go (earlier h) = placed-first m ms k p h
+    go (later j n h) =
+        let e : m .first + length (rowsOf (m .kind)) + j ≡ m .first + k = omega (arith, length-parametersOf m) in
+        placed-later m ms (m .first + k) p (rw e at (below j p h))
 
 pub at-place : (t : List ℕ) (k : ℕ) (p : Parameter) → parameterAt (parameters t) k ≡ At p → Placed (modules t) k p
-unfolding parameters modules
-at-place t k p e = rw (zero-add k) at (in-records recordLimit 0 0 0 t k p e)
+unfolding parameters
+at-place t k p e = rw (zero-add k) at (modules-induction AllPlaced placed-none placed-more t k p e)
 
 -- where the parameters of the module m begin
 record Begins (m : Module) (first : ℕ) (ps : List Parameter) : Type 0 where
   by : ℕ
   begins : m .first ≡ first + by
   theirs : (j : ℕ) (p : Parameter) → parameterAt (parametersOf m) j ≡ At p → parameterAt ps (by + j) ≡ At p
-
-no-module {ℓ} : {A : Type ℓ} (m : Module) → table.Nothing ≡ table.At m → A
-no-module m e = absurd (let z : _≡_ {A = ℕ} 0 1 = cc in omega arith)
 
 begins-first : (one m : Module) (ps : List Parameter) → one ≡ m → Begins m (one .first) (parametersOf one ++ ps)
 begins-first one m ps e =
@@ -140,26 +133,22 @@ begins-later one m ps b =
           rw a (parameter-late (parametersOf one) ps (b .by + j) ∙ b .theirs j p f);
     }
 
-of-records : (left number place first : ℕ) (t : List ℕ) (n : ℕ) (m : Module) → moduleAt (modulesFrom left number place first t) n ≡ table.At m
-    → Begins m first (parametersIn (modulesFrom left number place first t))
-unfolding modulesFrom parametersIn moduleAt
-of-records zero number place first t n m e = no-module m e
-of-records (suc left) number place first [] n m e = no-module m e
-of-records (suc left) number place first (kind ∷ t) zero m e =
-    let one : Module = record { number = number; place = place; kind = kind; first = first } in
-    let ms = modulesFrom left (number + 1) (place + 1 + bodyLength kind) (first + length (rowsOf kind)) (drop (bodyLength kind) t) in
-    begins-first one m (parametersIn ms) (cc)
-of-records (suc left) number place first (kind ∷ t) (suc n) m e =
-    let one : Module = record { number = number; place = place; kind = kind; first = first } in
-    let ms = modulesFrom left (number + 1) (place + 1 + bodyLength kind) (first + length (rowsOf kind)) (drop (bodyLength kind) t) in
-    begins-later one m (parametersIn ms)
-    (of-records left (number + 1) (place + 1 + bodyLength kind) (first + length (rowsOf kind)) (drop (bodyLength kind) t) n m e)
+abbrev AllBegin : (first : ℕ) → List Module → Type 0
+AllBegin first ms = (n : ℕ) (m : Module) → moduleAt ms n ≡ table.At m → Begins m first (parametersIn ms)
+
+begin-none : (first : ℕ) → AllBegin first []
+begin-none first n m e = no-module n m e
+
+begin-more : (one : Module) (ms : List Module) → AllBegin (one .first + length (rowsOf (one .kind))) ms → AllBegin (one .first) (one ∷ ms)
+unfolding parametersIn
+begin-more one ms below zero m e = begins-first one m (parametersIn ms) (the-first one m ms e)
+begin-more one ms below (suc n) m e = begins-later one m (parametersIn ms) (below n m (sym (at-others one ms n) ∙ e))
 
 -- the parameter j of a module of the table is the table's parameter j on from the module's first
 pub at-module : (t : List ℕ) (n : ℕ) (m : Module) (j : ℕ) (p : Parameter) → moduleAt (modules t) n ≡ table.At m
     → parameterAt (parametersOf m) j ≡ At p → parameterAt (parameters t) (m .first + j) ≡ At p
-unfolding parameters modules
+unfolding parameters
 at-module t n m j p h e =
-    let b = of-records recordLimit 0 0 0 t n m h in
+    let b = modules-induction AllBegin begin-none begin-more t n m h in
     let f : m .first ≡ b .by = omega (arith, b .begins) in
     rw f (b .theirs j p e)

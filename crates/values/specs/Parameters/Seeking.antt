@@ -5,8 +5,7 @@ use mathlib.Core.List.{List, [], _∷_}
 use Prim.Native.Nat.{ℕ, _+_, _≤_, _<_}
 use native.Mathlib.Omega.{arith}
 use lib.ListN.{length, drop, drop-of-length-le}
-use Rattle.catalogue.specs.Catalogue.{rowsOf}
-use Rattle.catalogue.specs.Catalogue.Rules.{rowOf}
+use Rattle.catalogue.specs.Catalogue.{rowOf, rowsOf}
 use Rattle.values.specs.Parameters.{named, parametersOf, withIndices}
 use Rattle.values.specs.Parameters.Laws.{length-parametersOf, parameterOf, parametersOf-cons}
 use Rattle.catalogue.specs.Row.{sameIndices}

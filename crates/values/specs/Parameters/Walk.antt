@@ -5,8 +5,7 @@ use mathlib.Core.List.{List, [], _++_}
 use Prim.Native.Nat.{ℕ, _+_, _-_, _≤_, _<_}
 use native.Mathlib.Omega.{arith}
 use lib.ListN.{length, getD, length-append}
-use Rattle.catalogue.specs.Catalogue.{rowsOf}
-use Rattle.catalogue.specs.Catalogue.Rules.{rowOf}
+use Rattle.catalogue.specs.Catalogue.{rowOf, rowsOf}
 use Rattle.values.specs.Parameters.{parameterAt, parameters, parametersIn, parametersOf}
 use Rattle.values.specs.Parameters.Laws.{length-parametersOf, parameter-early, parameter-late, parameterOf, parametersOf-at}
 use Rattle.room.specs.Table.{sound}

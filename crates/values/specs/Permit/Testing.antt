@@ -2,7 +2,7 @@
 use mathlib.Core.Path.{_≡_, refl, sym, _∙_}
 use mathlib.Core.Bool.{Bool, true, false, _&&_}
 use mathlib.Core.List.{List, [], _∷_}
-use Prim.Native.Nat.{ℕ, suc, _+_, _≤_, _<_}
+use Prim.Native.Nat.{ℕ, _+_, _≤_, _<_}
 use native.Mathlib.Numerals.{add-one}
 use native.Mathlib.Omega.{arith}
 use borrow.Author.Tests.{not-false, not-true}
@@ -12,9 +12,8 @@ use lib.Seq.{drop-cons}
 use mir.Facts.{toZ-ofZ}
 use mir.Syntax.{w64}
 use mir.Val.{SFits, ofZ, toZ}
-use Rattle.catalogue.specs.Catalogue.{firstRow, known, rowsOf}
-use Rattle.catalogue.specs.Catalogue.Laws.{run-row}
-use Rattle.catalogue.specs.Catalogue.Rules.{entryAt, noRow, rowOf}
+use Rattle.catalogue.specs.Catalogue.{entryAt, firstRow, known, rowOf, rowsOf}
+use Rattle.catalogue.specs.Catalogue.Laws.{rows-from, run-row}
 use Rattle.catalogue.specs.Row.{permitted}
 use Rattle.values.specs.Permit.{rowsPermit}
 use Rattle.catalogue.specs.declared.row.Row.{Row}
@@ -41,11 +40,10 @@ module _ (kind : ℕ) (vs : List ℤ) (j : ℕ) (s : Tested kind vs j) (l : j < 
   row-is = run-row kind j first _ (s .kinds) (tested-inside kind vs j s l) e refl
 
   at-value : rowsPermit (rowsOf kind) vs ≡ (t && rowsPermit (drop (j + 1) (rowsOf kind)) (drop (j + 1) vs))
-  unfolding rowOf
   at-value =
       s .rest
-      ∙ rw (add-one, drop-cons vs j (pos 0) l, drop-cons (rowsOf kind) j noRow (tested-inside kind vs j s l))
-      (head (getD (rowsOf kind) j noRow) (drop (suc j) (rowsOf kind)) (getD vs j (pos 0)) (drop (suc j) vs) ∙ rw (sym (rw (toZ-ofZ f, row-is) at g)))
+      ∙ rw (rows-from kind j (tested-inside kind vs j s l), drop-cons vs j (pos 0) l, ← add-one j)
+      (head (rowOf kind j) (drop (j + 1) (rowsOf kind)) (getD vs j (pos 0)) (drop (j + 1) vs) ∙ rw (sym (rw (toZ-ofZ f, row-is) at g)))
 
   pub tested-next : t ≡ true → Tested kind vs (j + 1)
   tested-next h = record { kinds = s .kinds; many = s .many; within = omega arith; rest = rw h at at-value }

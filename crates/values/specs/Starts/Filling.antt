@@ -1,6 +1,5 @@
 -- Rules for the start values, one by one.
 use mathlib.Core.Path.{_≡_, refl, ap, sym, _∙_}
-use mathlib.Core.Bool.{Bool, true, false, cond}
 use mathlib.Core.List.{List, [], _∷_, _++_}
 use Prim.Native.Nat.{ℕ, zero, suc, _+_, _≤_, _<_}
 use native.Mathlib.Numerals.{add-one}
@@ -10,13 +9,12 @@ use lib.ListN.{length, getD, take, drop, set, length-set}
 use lib.Seq.{append-snoc, drop-cons, length-take-le, set-at, take-length, take-suc}
 use mir.Facts.{toZ-ofZ}
 use mir.Syntax.{w64}
-use mir.Val.{SFits, ofZ, toZ}
+use mir.Val.{ofZ, toZ}
 use Rattle.values.specs.Parameters.Each.{parameter-fits}
 use Rattle.values.specs.Parameters.{parameterAt, parameters}
-use Rattle.catalogue.specs.Row.{permitted, start}
-use Rattle.catalogue.specs.Row.Laws.{RowFits}
+use Rattle.catalogue.specs.Row.{RowFits, start}
+use Rattle.catalogue.specs.Row.Laws.{start-fits}
 use Rattle.values.specs.Starts.{Started, starts, startsOf}
-use Rattle.catalogue.specs.declared.row.Row.{Row}
 use Rattle.values.specs.declared.parameter.Parameter.{Parameter}
 use Rattle.values.specs.declared.parameter.ParameterFound.{ParameterFound}
 use Rattle.values.specs.declared.parameter.ParameterFound.the-variants.{At, Nothing}
@@ -34,14 +32,6 @@ unfolding parameterAt startsOf
 none [] k e = refl
 none (q ∷ ps) zero e = absurd (let z : _≡_ {A = ℕ} 0 1 = cc in omega arith)
 none (q ∷ ps) (suc k) e = none ps k e
-
-start-fits : (r : Row) → RowFits r → SFits w64 (start r)
-unfolding start
-start-fits r f = go (permitted r (pos 0))
-  where
-    go : (b : Bool) → SFits w64 (cond b (pos 0) (r .low))
-    go true = record { sfits = omega arith }
-    go false = record { sfits = omega (arith, f .low-fits) }
 
 module _ (t : List ℕ) (k : ℕ) (f : ParameterFound) (e : f ≡ parameterAt (parameters t) k) where
   pub found-fits : (p : Parameter) → f ≡ At p → RowFits (p .row)

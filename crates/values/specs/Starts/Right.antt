@@ -1,16 +1,12 @@
 -- The start values are right for their table: at most 2,112, one for each parameter, and each permitted for its row.
 use mathlib.Core.Path.{_≡_, refl}
-use mathlib.Core.Bool.{Bool, true}
+use mathlib.Core.Bool.{true}
 use mathlib.Core.List.{List, [], _∷_}
 use Prim.Native.Nat.{ℕ, suc, _≤_}
 use native.Mathlib.Omega.{arith}
 use borrow.Author.Tests.{eq-eqb}
 use lib.ListN.{length}
-use Rattle.text.specs.Every.{every}
-use Rattle.catalogue.specs.Catalogue.{catalogue, level, minus, number, switch}
-use Rattle.catalogue.specs.Catalogue.Each.{entryTest}
-use Rattle.catalogue.specs.Row.{permitted, start}
-use Rattle.catalogue.specs.declared.row.Row.{Row}
+use Rattle.catalogue.specs.Catalogue.Starts.{catalogue-starts, startRight}
 use Rattle.values.specs.Parameters.{parameterAt, parameters}
 use Rattle.values.specs.Parameters.Each.{every-parameter}
 use Rattle.room.specs.Table.{sound}
@@ -26,15 +22,8 @@ starts-few t h = omega (arith, length-starts t, parameters-few t h)
 
 -- ---- that each is permitted
 
-unfoldable startRight : Row → Bool
-startRight r = permitted r (start r)
-
-catalogue-starts : every (entryTest startRight) catalogue ≡ true
-unfolding every startRight start permitted catalogue level switch number minus
-catalogue-starts = refl
-
 each-start : (ps : List Parameter) → ((k : ℕ) (p : Parameter) → parameterAt ps k ≡ At p → startRight (p .row) ≡ true) → eachPermitted ps (startsOf ps) ≡ true
-unfolding eachPermitted startsOf parameterAt startRight
+unfolding eachPermitted startsOf parameterAt
 each-start [] h = refl
 each-start (p ∷ ps) h = rw (h 0 p refl) (each-start ps (λ k q e. h (suc k) q e))
 

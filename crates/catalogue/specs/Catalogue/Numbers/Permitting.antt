@@ -11,11 +11,10 @@ use lib.Signed.{ltZ, nonNeg}
 use mir.Facts.{fits-natAbs}
 use mir.Syntax.{w32, w64}
 use mir.Val.{Fits, SFits}
-use Rattle.catalogue.specs.Catalogue.{catalogue, columns}
+use Rattle.catalogue.specs.Catalogue.{catalogue, columns, entryAt}
 use Rattle.catalogue.specs.Catalogue.Fits.{entry-fits}
 use Rattle.catalogue.specs.Catalogue.Numbers.{columnAt}
 use Rattle.catalogue.specs.Catalogue.Numbers.Reading.{number-narrow}
-use Rattle.catalogue.specs.Catalogue.Rules.{entryAt}
 use Rattle.catalogue.specs.Row.{permitted}
 use Rattle.catalogue.specs.Row.Laws.{bits, distance-below, distance-fits, distance-sign, divided, too-high, too-low}
 

@@ -15,8 +15,7 @@ use mir.Val.{Fits, SFits, ofZ, toZ}
 use Rattle.text.specs.Every.{every}
 use Rattle.text.specs.Every.Laws.{every-at}
 use Rattle.catalogue.specs.Catalogue.Numbers.{column, columnAt}
-use Rattle.catalogue.specs.Catalogue.{Entry, catalogue, columns, firstNumber, kindNumber, level, minus, number, numbers, secondNumber, switch}
-use Rattle.catalogue.specs.Catalogue.Rules.{entryAt, noEntry}
+use Rattle.catalogue.specs.Catalogue.{Entry, catalogue, columns, entryAt, firstNumber, kindNumber, level, minus, noEntry, number, numbers, secondNumber, switch}
 
 small : ℤ → Bool
 small z = ltb (mag z) (2 ^ 31)

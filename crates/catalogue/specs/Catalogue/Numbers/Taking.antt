@@ -8,10 +8,9 @@ use lib.ListN.{length}
 use lib.Signed.{nonNeg}
 use mir.Syntax.{w64}
 use mir.Val.{ofZ, toZ}
-use Rattle.catalogue.specs.Catalogue.{catalogue, columns, firstNumber, kindNumber}
+use Rattle.catalogue.specs.Catalogue.{catalogue, columns, entryAt, firstNumber, kindNumber}
 use Rattle.catalogue.specs.Catalogue.Numbers.{columnAt, indicesFrom, indices-back, kindFrom, kind-back}
 use Rattle.catalogue.specs.Catalogue.Numbers.Reading.{column-bits}
-use Rattle.catalogue.specs.Catalogue.Rules.{entryAt}
 use Rattle.catalogue.specs.declared.row.Indices.{Indices}
 use Rattle.catalogue.specs.declared.row.Indices.the-variants.{OneGroup, TwoGroups}
 use Rattle.catalogue.specs.declared.row.Kind.{Kind}

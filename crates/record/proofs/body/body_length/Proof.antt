@@ -4,6 +4,9 @@ use Rattle.record.specs.Body.{bodyLength}
 use Rattle.record.proofs.body.body_length.Statement.{statement}
 use Rattle.record.proofs.body.body_length.Tie as tie
 
-pub body-length-spec : {M : Type 1} → statement M
+returns : tie.Need-returns
 unfolding bodyLength
-body-length-spec = tie.close (tie.spec (λ c. refl))
+returns c = refl
+
+pub body-length-spec : {M : Type 1} → statement M
+body-length-spec = tie.close (tie.spec returns)

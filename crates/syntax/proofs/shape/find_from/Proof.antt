@@ -1,6 +1,6 @@
 -- `find_from`: a place in the rest, counted from the start.
 use borrow.Author.Needs.{needs}
-use Rattle.syntax.specs.Shape.Reading.{from-rules}
+use Rattle.text.specs.Cut.From.{from-rules}
 use Rattle.syntax.proofs.shape.find_from.Statement.{statement}
 use Rattle.syntax.proofs.shape.find_from.Tie as tie
 

@@ -4,6 +4,9 @@ use Rattle.serial_port.specs.Port.{fresh, view}
 use Rattle.serial_port.proofs.port.Port.fresh.Statement.{statement}
 use Rattle.serial_port.proofs.port.Port.fresh.Tie as tie
 
-pub fresh-spec : {M : Type 1} → statement M
+returns : tie.Need-returns
 unfolding fresh view
-fresh-spec = tie.close (tie.spec (λ c. (refl, refl)))
+returns c = (refl, refl)
+
+pub fresh-spec : {M : Type 1} → statement M
+fresh-spec = tie.close (tie.spec returns)
