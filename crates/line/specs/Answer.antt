@@ -2,6 +2,7 @@
 pub mod Laws
 pub mod Replies
 pub mod Replying
+pub mod Sent
 use mathlib.Core.Path.{_≡_}
 use mathlib.Core.List.{List}
 use Prim.Native.Nat.{ℕ}

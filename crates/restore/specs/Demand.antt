@@ -3,6 +3,7 @@ pub mod Calling
 pub mod Exactly
 pub mod Laws
 pub mod Lines
+pub mod Made
 pub mod Played
 pub mod Rules
 pub mod Testing

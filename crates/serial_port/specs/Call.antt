@@ -1,4 +1,5 @@
 -- One call of a port: what it consumes, replies and changes, and when it refuses.
+pub mod Accepted
 pub mod Finishing
 pub mod Laws
 pub mod Rules

@@ -3,6 +3,7 @@ pub mod Calls
 pub mod Feed
 pub mod Kept
 pub mod Laws
+pub mod Refused
 use mathlib.Core.Bool.{Bool, true, false, cond}
 use mathlib.Core.List.{List, [], _∷_}
 use Prim.Native.Nat.{ℕ, zero, suc}

@@ -37,13 +37,13 @@ pub(crate) fn put_text(buffer: &mut [u8], at: usize, kind: Kind, v: i64) -> usiz
 }
 
 // A value as a reply tells it.
-pub(crate) fn put_told(buffer: &mut [u8], at: usize, kind: Kind, v: i64) -> usize
-    requires { ⌜ at + length (replyText kind v) ≤ length (now buffer) ⌝ }
-    ensures { λ r. ⌜ Wrote (now (buffer .entry)) at (replyText kind v) r (now (buffer .exit)) ⌝ }
+pub(crate) fn put_told(buffer: &mut [u8], at: usize, kind: Kind, told: i64) -> usize
+    requires { ⌜ at + length (replyText kind told) ≤ length (now buffer) ⌝ }
+    ensures { λ r. ⌜ Wrote (now (buffer .entry)) at (replyText kind told) r (now (buffer .exit)) ⌝ }
 {
     match kind {
-        Kind::Level => put_level_one_decimal(buffer, at, v),
-        Kind::Switch => put_switch(buffer, at, magnitude(v)),
-        Kind::Number => put_number(buffer, at, magnitude(v)),
+        Kind::Level => put_level_one_decimal(buffer, at, told),
+        Kind::Switch => put_switch(buffer, at, magnitude(told)),
+        Kind::Number => put_number(buffer, at, magnitude(told)),
     }
 }

@@ -61,7 +61,8 @@ pub fn parameter_count(table: &[u8]) -> usize
         let kind = table[at];
         records += 1;
         at = at + 1 + body_length(kind);
-        passed += row_count(kind);
+        let count = row_count(kind);
+        passed += count;
     }
     passed
 }

@@ -1,4 +1,5 @@
 -- The restore list: one set line for each parameter that differs, in value order, and what the restore call answers.
+pub mod Admitting
 pub mod Beyond
 pub mod Counted
 pub mod Numbers

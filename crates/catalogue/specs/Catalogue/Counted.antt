@@ -1,4 +1,4 @@
--- How many rows there are: "The rows count 6, 1, 1, 7, 33 and 2: fifty in all".
+-- How many rows each module type has, and how many there are in all.
 use mathlib.Core.Path.{_≡_, refl}
 use mathlib.Core.List.{[], _∷_, map}
 use Prim.Native.Nat.{ℕ}

@@ -3,6 +3,7 @@ use mathlib.Core.Path.{_≡_, refl, ap, sym, _∙_}
 use mathlib.Core.Bool.{true, false}
 use mathlib.Core.List.{List, _∷_, map}
 use Prim.Native.Nat.{ℕ, zero, suc, _+_, _≤_, _<_}
+use native.Mathlib.Nat.{mod-le}
 use native.Mathlib.Numerals.{add-one}
 use native.Mathlib.Omega.{arith}
 use borrow.Author.Tests.{leb-true, le-leb, lt-leb}
@@ -108,4 +109,12 @@ pub run-adds : (kind n first : ℕ) → known kind ≡ true → n < length (rows
 unfolding catalogue
 run-adds kind n first k h e = record { fits = omega (arith, run-within kind n first k h e) }
 
-pub ruleset taking = (run-within, run-row, run-adds)
+-- what is not behind a row of the type is within too, so that another row of it is refused for its fields
+pub run-before : (kind n m first : ℕ) → known kind ≡ true → n < length (rowsOf kind) → m ≤ n → first ≡ firstRow kind → first + m < length catalogue
+run-before kind n m first k h l e = omega (arith, run-ends kind k)
+
+pub run-adds-before : (kind n m first : ℕ) → known kind ≡ true → n < length (rowsOf kind) → m ≤ n → first ≡ firstRow kind → Fits w64 (first + m)
+unfolding catalogue
+run-adds-before kind n m first k h l e = record { fits = omega (arith, run-before kind n m first k h l e) }
+
+pub ruleset taking = (run-within, run-row, run-adds, run-before, run-adds-before, mod-le)

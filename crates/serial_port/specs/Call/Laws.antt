@@ -8,12 +8,14 @@ use lib.IntN.{ℤ}
 use lib.ListN.{length, take, drop}
 use lib.Seq.{sets, sets-eq, take-at}
 use Rattle.text.specs.Cut.{has, indexOf, before}
+use Rattle.text.specs.Cut.Found.{has-nothing}
 use Rattle.room.specs.Table.{sound}
 use Rattle.values.specs.Values.{valuesSound}
 use Rattle.syntax.specs.Shape.{lineLimit}
-use Rattle.spelling.specs.Acknowledgement.{nak}
+use Rattle.spelling.specs.Acknowledgement.Laws.{nak-length}
 use Rattle.line.specs.Answer.{answer}
 use Rattle.line.specs.Answer.Replies.{reply-limit}
+use Rattle.line.specs.Answer.Sent.{reply-some}
 use Rattle.serial_port.specs.Port.{View, held, over, view, Same, claim, join}
 use Rattle.serial_port.specs.Port.Laws.{join-nothing, same-seen, seen-same}
 use Rattle.serial_port.specs.Call.{Answering, step, replied, waiting, finish, call, tells, Handed, Answers, answers}
@@ -44,8 +46,7 @@ step-waits answer vs v bs h = rw h refl
 
 -- zero bytes given change nothing
 pub step-nothing : (answer : Answering) (vs : List ℤ) (v : View) → claim v ≤ lineLimit → step answer vs v [] ≡ waiting vs 0 v
-unfolding step has indexOf
-step-nothing answer vs v h = rw (join-nothing v h) refl
+step-nothing answer vs v h = rw (step-waits answer vs v [] (has-nothing 0x0D), join-nothing v h) refl
 
 -- ---- the reply
 
@@ -56,9 +57,15 @@ written-first buffer l h = rw (sets-eq l buffer 0 (omega arith)) (take-at l (dro
 -- every reply fits a buffer of 64 bytes
 pub reply-fits : (t : List ℕ) (vs : List ℤ) (v : View) → sound t ≡ true → valuesSound t vs ≡ true
     → length (finish (answer t) vs v .reply) ≤ replyLimit
-unfolding finish replyLimit nak
+unfolding finish replyLimit
 reply-fits t vs (held l) s r = omega (arith, reply-limit t vs l s r)
-reply-fits t vs over s r = omega arith
+reply-fits t vs over s r = omega (arith, nak-length 99)
+
+-- and has a byte or more
+pub reply-sent : (t : List ℕ) (vs : List ℤ) (v : View) → sound t ≡ true → valuesSound t vs ≡ true → 1 ≤ length (finish (answer t) vs v .reply)
+unfolding finish
+reply-sent t vs (held l) s r = reply-some t vs l s r
+reply-sent t vs over s r = omega (arith, nak-length 99)
 
 -- ---- ports that count as the same
 

@@ -6,13 +6,14 @@ use Prim.Native.Nat.{ℕ, _+_, _≤_, _<_}
 use native.Mathlib.Nat.{zero-add}
 use native.Mathlib.Numerals.{add-one}
 use native.Mathlib.Omega.{arith}
-use borrow.Author.Tests.{lt-ltb, le-ltb}
 use lib.IntN.{ℤ}
 use lib.ListN.{length, take}
 use lib.Seq.{take-length}
 use mir.Syntax.{w64}
 use mir.Val.{Fits}
 use Rattle.text.specs.Cut.{indexOf, has, before}
+use Rattle.text.specs.Cut.Found.{before-take, has-found}
+use Rattle.text.specs.Cut.Lacking.{has-not}
 use Rattle.room.specs.Table.{sound}
 use Rattle.values.specs.Values.{valuesSound}
 use Rattle.syntax.specs.Shape.{lineLimit}
@@ -48,16 +49,13 @@ module _ (bs : List ℕ) (end : ℕ) (e : end ≡ indexOf 0x0D bs) where
   end-fits h k = record { fits = omega (arith, line-within) }
 
   line-before : take end bs ≡ before 0x0D bs
-  unfolding before
-  line-before = rw e refl
+  line-before = rw (e, before-take 0x0D bs) refl
 
   has-none : end ≡ length bs → has 0x0D bs ≡ false
-  unfolding has
-  has-none h = le-ltb (indexOf 0x0D bs) (length bs) (omega arith)
+  has-none h = has-not 0x0D bs (sym e ∙ h)
 
   has-one : (end ≡ length bs → ⊥) → has 0x0D bs ≡ true
-  unfolding has
-  has-one h = lt-ltb (indexOf 0x0D bs) (length bs) (omega (arith, line-within))
+  has-one h = has-found 0x0D bs (indexOf 0x0D bs) refl (omega (arith, line-within))
 
   module _ (t : List ℕ) (vs : List ℤ) (p : Port) (buffer : List ℕ) (q : Port) (s : sound t ≡ true) (v : valuesSound t vs ≡ true)
       (h : 64 ≤ length buffer) (k : p .len ≤ 64) (c : Collects p (take end bs) q) where

@@ -3,12 +3,11 @@ use mathlib.Core.Path.{_≡_, refl, sym, _∙_, ap}
 use mathlib.Core.Bool.{Bool, true, false, true≢false}
 use mathlib.Core.List.{List, [], _∷_, _++_}
 use Prim.Native.Nat.{ℕ, suc, _≤_, _<_}
-use native.Mathlib.Omega.{arith}
-use borrow.Author.Tests.{lt-ltb}
-use lib.Dec.{eqb, leb·suc-suc}
+use lib.Dec.{eqb}
 use lib.IntN.{ℤ}
 use lib.ListN.{length, take}
 use Rattle.text.specs.Cut.{has, indexOf, before, after}
+use Rattle.text.specs.Cut.Found.{has-here, has-behind}
 use Rattle.text.specs.Cut.Lacking.{has-not, before-lacks, parts-joined, through-first}
 use Rattle.syntax.specs.Shape.{lineLimit}
 use Rattle.spelling.specs.Acknowledgement.{nak}
@@ -17,16 +16,6 @@ use Rattle.serial_port.specs.Port.{View, fresh, claim, join}
 use Rattle.serial_port.specs.Port.Laws.{fresh-few, join-nothing, join-join, join-fresh, join-overruns, claim-join}
 use Rattle.serial_port.specs.Call.{Answering, finish}
 use Rattle.serial_port.specs.Play.{Played, ended, replyFirst, feed}
-
--- ---- whether a sequence has an 0D, by its first byte
-
-has-cons : (b : ℕ) (bs : List ℕ) → eqb b 0x0D ≡ false → has 0x0D (b ∷ bs) ≡ has 0x0D bs
-unfolding has indexOf
-has-cons b bs h = rw h (leb·suc-suc (suc (indexOf 0x0D bs)) (length bs))
-
-has-end : (b : ℕ) (bs : List ℕ) → eqb b 0x0D ≡ true → has 0x0D (b ∷ bs) ≡ true
-unfolding has indexOf
-has-end b bs h = rw h (lt-ltb 0 (suc (length bs)) (omega arith))
 
 -- a finished line: its reply, and the rest from a fresh port
 unfoldable pub finished : Answering → Answer → List ℕ → Played
@@ -62,8 +51,8 @@ module _ (answer : Answering) where
 
       go : (t : Bool) → eqb b 0x0D ≡ t → (has 0x0D bs ≡ false → feed answer w vs bs ≡ ended (join w bs) vs)
           → feed answer v vs (b ∷ bs) ≡ ended (join v (b ∷ bs)) vs
-      go true e ih = absurd (true≢false (sym (has-end b bs e) ∙ h))
-      go false e ih = feed-byte v vs b bs e ∙ ih (sym (has-cons b bs e) ∙ h) ∙ ap (λ w. ended w vs) (join-join v (b ∷ []) bs)
+      go true e ih = absurd (true≢false (sym (has-here 0x0D b bs e) ∙ h))
+      go false e ih = feed-byte v vs b bs e ∙ ih (sym (has-behind 0x0D b bs e) ∙ h) ∙ ap (λ w. ended w vs) (join-join v (b ∷ []) bs)
 
   -- cut anywhere: what follows is fed to the port and the values that the first part leaves
   abbrev Cut : View → List ℤ → List ℕ → List ℕ → Type 0

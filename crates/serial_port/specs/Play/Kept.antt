@@ -7,10 +7,12 @@ use native.Mathlib.Omega.{arith}
 use lib.Dec.{eqb}
 use lib.IntN.{ℤ}
 use lib.ListN.{length}
+use Rattle.text.specs.Cut.{has, before}
 use Rattle.syntax.specs.Shape.{lineLimit}
 use Rattle.serial_port.specs.Port.{View, held, over, fresh, claim, join}
 use Rattle.serial_port.specs.Port.Laws.{fresh-none, fresh-few, claim-join, claim-join-length}
-use Rattle.serial_port.specs.Call.{Answering, finish}
+use Rattle.serial_port.specs.Call.{Answering, step, finish, replied, waiting}
+use Rattle.serial_port.specs.Call.Laws.{step-finishes, step-waits}
 use Rattle.serial_port.specs.Play.{ended, replyFirst, feed}
 use Rattle.serial_port.specs.Play.Feed.{finished, feed-nothing, feed-end, feed-byte}
 
@@ -24,7 +26,16 @@ module _ (answer : Answering) (Good : List ℤ → Type 0) (keeps : Keeps answer
   finish-keeps vs (held l) k g = keeps vs l k g
   finish-keeps vs over k g = g
 
-  -- what every line keeps, a whole byte sequence keeps
+  -- a call keeps it
+  pub step-keeps : (v : View) (vs : List ℤ) (bs : List ℕ) → Good vs → Good (step answer vs v bs .values)
+  unfolding replied waiting
+  step-keeps v vs bs g = go (has 0x0D bs) refl
+    where
+      go : (t : Bool) → has 0x0D bs ≡ t → Good (step answer vs v bs .values)
+      go true e = rw (step-finishes answer vs v bs e) (finish-keeps vs (join v (before 0x0D bs)) (claim-join v (before 0x0D bs)) g)
+      go false e = rw (step-waits answer vs v bs e) g
+
+  -- and so does a whole byte sequence
   pub feed-keeps : (v : View) (vs : List ℤ) (bs : List ℕ) → claim v ≤ lineLimit → Good vs → Good (feed answer v vs bs .values)
   unfolding finished replyFirst
   feed-keeps v vs [] k g = rw (feed-nothing answer v vs) (unfold ended in g)

@@ -8,6 +8,7 @@ use lib.IntN.{ℤ}
 use lib.ListN.{length, length-drop}
 use lib.Seq.{drop-length}
 use Rattle.text.specs.Cut.{has, before, after}
+use Rattle.text.specs.Cut.Found.{after-drop}
 use Rattle.syntax.specs.Shape.{lineLimit}
 use Rattle.line.specs.Answer.{answer}
 use Rattle.line.specs.Answer.Laws.{values-stay-sound}
@@ -24,8 +25,7 @@ use Rattle.serial_port.specs.Play.Feed.{finished, feed-waits, feed-finis
 use Rattle.serial_port.specs.Play.Kept.{Keeps, finish-keeps}
 
 after-shorter : (b : ℕ) (bs : List ℕ) → length (after 0x0D (b ∷ bs)) ≤ length bs
-unfolding after
-after-shorter b bs = simp length-drop (omega arith)
+after-shorter b bs = simp (after-drop, length-drop) (omega arith)
 
 -- where no call is refused while the values are good: playing is feeding
 module _ (answer : Answering) (Good : List ℤ → Type 0) (keeps : Keeps answer Good)
@@ -35,8 +35,8 @@ module _ (answer : Answering) (Good : List ℤ → Type 0) (keeps : Keeps answer
       → playFrom answer refusal call (suc left) v vs (b ∷ bs)
       ≡ replyFirst (finish answer vs (join v (before 0x0D (b ∷ bs))) .reply)
       (playFrom answer refusal (suc call) left fresh (finish answer vs (join v (before 0x0D (b ∷ bs))) .values) (after 0x0D (b ∷ bs)))
-  unfolding playFrom first replied after
-  call-finishes call left v vs b bs k g e = rw (serves call vs v k g, e, step-finishes answer vs v (b ∷ bs) e) refl
+  unfolding playFrom first replied
+  call-finishes call left v vs b bs k g e = rw (serves call vs v k g, e, step-finishes answer vs v (b ∷ bs) e, after-drop 0x0D (b ∷ bs)) refl
 
   call-waits : (call left : ℕ) (v : View) (vs : List ℤ) (b : ℕ) (bs : List ℕ) → claim v ≤ lineLimit → Good vs → has 0x0D (b ∷ bs) ≡ false
       → playFrom answer refusal call (suc left) v vs (b ∷ bs) ≡ playFrom answer refusal (suc call) left (join v (b ∷ bs)) vs []

@@ -13,7 +13,7 @@ use Rattle.serial_port.specs.Port.{View}
 use Rattle.serial_port.specs.Call.{step}
 use Rattle.serial_port.specs.Refusal.{replyLimit}
 use Rattle.serial_port.specs.Stream.{consumes}
-use Rattle.serial_port.specs.Stream.Calls.{consumed-some}
+use Rattle.serial_port.specs.Call.Accepted.{consumed-some}
 
 module _ (t : List ℕ) where
   -- as many calls as there are bytes are enough

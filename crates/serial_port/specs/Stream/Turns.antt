@@ -21,13 +21,14 @@ use Rattle.line.specs.Answer.{answer}
 use Rattle.serial_port.specs.Port.{view}
 use Rattle.serial_port.specs.Port.Laws.{claim-view}
 use Rattle.serial_port.specs.Call.{step, Answers}
+use Rattle.serial_port.specs.Call.Accepted.{Accepted, accept, consumed-most, consumed-some, step-fits}
 use Rattle.serial_port.specs.Refusal.{replyLimit}
-use Rattle.serial_port.specs.Play.{ended, feed}
+use Rattle.serial_port.specs.Play.{ended}
 use Rattle.serial_port.specs.Play.Feed.{followed}
-use Rattle.serial_port.specs.Play.Kept.{feed-keeps}
+use Rattle.serial_port.specs.Play.Kept.{step-keeps}
 use Rattle.serial_port.specs.Play.Laws.{Right, keeps-right}
 use Rattle.serial_port.specs.Stream.{joined, flow, consumes, Serves}
-use Rattle.serial_port.specs.Stream.Calls.{Made, Once, consumed-most, consumed-some, feed-once, joined-append, made, step-fits}
+use Rattle.serial_port.specs.Stream.Calls.{Once, feed-once, joined-append}
 use Rattle.serial_port.specs.Stream.Consuming.{none-left, no-room, one-more}
 use Rattle.serial_port.specs.Stream.Flow.{flow-nothing, flow-more}
 use Rattle.serial_port.specs.declared.port.Port.{Port}
@@ -80,10 +81,11 @@ module _ (t : List ℕ) (vs : List ℤ) (p : Port) (bs out : List ℕ) where
     -- ---- one more call
     module _ (c : Called) (vs″ : List ℤ) (part : List ℕ) (left : 64 ≤ length out′ - n)
         (a : Answers t vs′ q (take (length bs - at) (drop at bs)) (take (length out′ - n) (drop n out′)) c vs″ part) where
-      done : Made t vs′ q (drop at bs) (take (length out′ - n) (drop n out′)) c vs″ part
+      done : Accepted t vs′ q (drop at bs) (take (length out′ - n) (drop n out′)) c vs″ part
+      unfolding lineLimit replyLimit
       done =
           let enough : 64 ≤ length (take (length out′ - n) (drop n out′)) = rw (part-to-end out′ n, length-drop n out′) left in
-          made t vs′ q (drop at bs) (take (length out′ - n) (drop n out′)) c vs″ part (h .sounds) (h .right) enough (h .few) (rw (part-to-end bs at) at a)
+          accept t vs′ q (drop at bs) (take (length out′ - n) (drop n out′)) c vs″ part (h .sounds) (h .right) enough (h .few) (rw (part-to-end bs at) at a)
 
       wrote : Wrote out′ n (step (answer t) vs′ (view q) (drop at bs) .reply) (n + c .sent) (putMid n (length out′ - n) out′ part)
       wrote =
@@ -96,12 +98,7 @@ module _ (t : List ℕ) (vs : List ℤ) (p : Port) (bs out : List ℕ) where
       fed = rw (done .consumed) (feed-once (answer t) (view q) vs′ (drop at bs) (claim-view q (h .few)))
 
       right-after : valuesSound t vs″ ≡ true
-      unfolding lineLimit
-      right-after =
-          let kept = feed-keeps (answer t) (Right t) (keeps-right t (h .sounds)) (view q) vs′ (take (step (answer t) vs′ (view q) (drop at bs) .consumed) (drop at bs)) (claim-view q (h .few)) (h .right) in
-          let same : vs″ ≡ feed (answer t) (view q) vs′ (take (step (answer t) vs′ (view q) (drop at bs) .consumed) (drop at bs)) .values =
-          done .values ∙ sym (feed-once (answer t) (view q) vs′ (drop at bs) (claim-view q (h .few)) .values) in
-          rw same kept
+      right-after = rw (done .values) (step-keeps (answer t) (Right t) (keeps-right t (h .sounds)) (view q) vs′ (drop at bs) (h .right))
 
       most : c .consumed ≤ length bs - at
       most = rw (done .consumed, ← (length-drop at bs)) (consumed-most (answer t) (view q) vs′ (drop at bs))
@@ -125,7 +122,7 @@ module _ (t : List ℕ) (vs : List ℤ) (p : Port) (bs out : List ℕ) where
           rw (fuel, left, ← (drop-drop (c .consumed) at bs), told, done .consumed, done .values, done .seen, add-assoc at (step (answer t) vs′ v (drop at bs) .consumed)) whole
 
       pub serving-next : at < length bs → Serving t vs p bs out vs″ (c .port) (at + c .consumed) (n + c .sent) (putMid n (length out′ - n) out′ part)
-      unfolding followed
+      unfolding followed lineLimit
       serving-next l =
           let f = flow-more t vs p bs at vs′ q (h .values) (h .seen) (c .consumed) in
           let w = wrote-join (h .replies) wrote in

@@ -6,7 +6,7 @@ use native.Mathlib.Omega.{arith}
 use lib.ListN.{length, length-append}
 use Rattle.text.specs.Digits.{digits}
 use Rattle.text.specs.Written.{Wrote}
-use Rattle.text.specs.Written.Laws.{wrote-join, room-first, room-second}
+use Rattle.text.specs.Written.Laws.{wrote-join, room-first, room-second, past-by}
 use Rattle.catalogue.specs.declared.row.Indices.{Indices}
 use Rattle.catalogue.specs.declared.row.Indices.the-variants.{OneGroup, TwoGroups}
 use Rattle.spelling.specs.IndexText.{indexText}
@@ -57,8 +57,13 @@ pub two-second : (i : Indices) (a b at j : ℕ) (l m : List ℕ) → i ≡ TwoGr
     → j + length (groupText b) ≤ length m
 two-second i a b at j l m e h w = room-second (groupText a) (groupText b) l at j m (rw (two-text i a b e) at h) w
 
+-- and in the place of the first, once that is written
+pub two-again : (i : Indices) (a b at j : ℕ) (l m : List ℕ) → i ≡ TwoGroups a b → at + length (indexText i) ≤ length l → Wrote l at (groupText a) j m
+    → at + length (groupText b) ≤ length m
+two-again i a b at j l m e h w = omega (arith, two-second i a b at j l m e h w, past-by w)
+
 pub wrote-two : (i : Indices) (a b at j r : ℕ) (l m k : List ℕ) → i ≡ TwoGroups a b → Wrote l at (groupText a) j m → Wrote m j (groupText b) r k
     → Wrote l at (indexText i) r k
 wrote-two i a b at j r l m k e v w = rw (two-text i a b e) (wrote-join v w)
 
-pub ruleset index-writing = (one-room, wrote-one, two-first, two-other, two-second, wrote-two)
+pub ruleset index-writing = (one-room, wrote-one, two-first, two-other, two-second, two-again, wrote-two)

@@ -9,10 +9,12 @@ use mir.Syntax.{w64}
 use mir.Val.{SFits}
 use mir.Facts.{toZ-ofZ}
 use Rattle.text.specs.Digits.{digits}
+use Rattle.text.specs.Digits.Laws.{some-digits}
 use Rattle.text.specs.Level.{levelText, oneDecimalText}
 use Rattle.text.specs.Level.Length.{decimal-longer}
 use Rattle.text.specs.Level.Sign.{kept}
 use Rattle.text.specs.Switch.{switchText}
+use Rattle.text.specs.Switch.Laws.{switch-length}
 use Rattle.text.specs.Written.{Wrote}
 use Rattle.catalogue.specs.declared.row.Kind.{Kind}
 use Rattle.catalogue.specs.declared.row.Kind.the-variants as kind
@@ -47,6 +49,13 @@ module _ (level : ℤ → List ℕ) (k : Kind) (v : ℤ) (at : ℕ) (f : SFits w
   unfolding textOf
   number-room size long e s h = rw (s, toZ-ofZ f) (rw e at h)
 
+  -- where there is room for a number there is for a switch, so that a number written as one is refused for its bytes
+  pub letter-room : (size long : ℕ) → k ≡ kind.Number → at + length (textOf level k v) ≤ long → at + length (switchText size) ≤ long
+  unfolding textOf
+  letter-room size long e h =
+      let r = rw e at h in
+      omega (arith, switch-length size, some-digits (natAbs v))
+
   pub wrote-level : (r : ℕ) (l m : List ℕ) → k ≡ kind.Level → Wrote l at (level (kept v)) r m → Wrote l at (textOf level k v) r m
   unfolding textOf
   wrote-level r l m e w = rw e (rw (toZ-ofZ f) at w)
@@ -61,4 +70,4 @@ module _ (level : ℤ → List ℕ) (k : Kind) (v : ℤ) (at : ℕ) (f : SFits w
   wrote-number size r l m e s w = rw e (rw (s, toZ-ofZ f) at w)
 
 pub ruleset text-writing =
-    (set-level-room, told-level-room, told-shortest-room, switch-room, number-room, wrote-level, wrote-switch, wrote-number)
+    (set-level-room, told-level-room, told-shortest-room, switch-room, number-room, letter-room, wrote-level, wrote-switch, wrote-number)
