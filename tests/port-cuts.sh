@@ -1,5 +1,6 @@
 #!/bin/bash
-# Runs the program `port` on one input cut in three ways, and on tables that it must refuse, and compares every byte.
+# Runs the program `port` on one input cut in three ways, on one of many reads, with an output that takes nothing, and on tables that it must
+# refuse, and compares every byte. A run that fails, or has not ended after 20 seconds, ends the test.
 # usage: tests/port-cuts.sh [PROGRAM]
 set -u
 here=$(cd "$(dirname "$0")/.." && pwd)
@@ -10,9 +11,15 @@ trap 'rm -rf "$folder"' EXIT
 cd "$folder" || exit 2
 failed=0
 
-# compares two files, and says what was compared
-same() { # WHAT GOT WANTED
-    if cmp -s "$2" "$3"; then echo "ok: $1"; else echo "FAILED: $1"; failed=1; fi
+# runs the program on its standard input
+run() { # WHAT TO
+    timeout 20 "$program" >"$2" || { echo "FAILED: $1: the program ended with status $? (124: not within 20 seconds)"; exit 1; }
+}
+
+# runs it so, and compares what it writes with a file
+replies() { # WHAT WANTED
+    run "$1" got
+    if cmp -s got "$2"; then echo "ok: $1"; else echo "FAILED: $1"; failed=1; fi
 }
 
 # the table A, and some hundred lines: right, wrong, overrun, and an unfinished last one
@@ -27,17 +34,16 @@ with open("input", "wb") as f:
         f.write(random.choice(lines) + b"\r")
     f.write(b'GA"T">1')
 P
-"$program" <input >whole
+run "some hundred lines" whole <input
 grep -aq 'GA"T">1=' whole || { echo "FAILED: the program answered nothing"; failed=1; }
 ends=$(tr -dc '\r' <input | wc -c)
-replies=$(tr -dc '\r' <whole | wc -c)
-if [ "$ends" = "$replies" ]; then echo "ok: one reply to each of $ends lines"; else echo "FAILED: $replies replies to $ends lines"; failed=1; fi
+answers=$(tr -dc '\r' <whole | wc -c)
+if [ "$ends" = "$answers" ]; then echo "ok: one reply to each of $ends lines"; else echo "FAILED: $answers replies to $ends lines"; failed=1; fi
 
 # a line of 65 bytes gets one 99, and the one after it its own answer
 python3 -c 'import sys; sys.stdout.buffer.write(b"x" * 65 + b"\rGA\"T\">1\r")' >long
 printf '\02599\rGA"T">1=0.0\r' >afresh
-"$program" <long >got
-same "a line of 65 bytes gets one 99, and the next is read afresh" got afresh
+replies "a line of 65 bytes gets one 99, and the next is read afresh" afresh <long
 
 # the whole input, cut byte by byte and at random
 writer() { # SEED: 0 for single bytes
@@ -56,17 +62,31 @@ while at < len(data):
         time.sleep(0.001)
 P
 }
-writer 0 | "$program" >bytes
-same "byte by byte gives the same replies" bytes whole
+replies "byte by byte gives the same replies" whole < <(writer 0)
 for seed in 1 2 3; do
-    writer $seed | "$program" >cuts
-    same "random cuts ($seed) give the same replies" cuts whole
+    replies "random cuts ($seed) give the same replies" whole < <(writer $seed)
 done
+
+# an input of hundreds of reads, each as long as the buffer: every reply to every read is written
+python3 - <<'P'
+lines = [(b'SA"T">1=-4', b'\x06'), (b'GA"T">1', b'GA"T">1=-4.0'), (b'SA"T">1=99', b'\x1503'), (b'x' * 65, b'\x1599'),
+         (b'SA"T">1=0', b'\x06'), (b'GA"T">1', b'GA"T">1=0.0')]
+with open("much", "wb") as much, open("wanted", "wb") as wanted:
+    for _ in range(3000):
+        for line, reply in lines:
+            much.write(line + b"\r")
+            wanted.write(reply + b"\r")
+P
+replies "an input of $(wc -c <much) bytes gets all its replies" wanted <much
+
+# where the output takes nothing the program ends, though the input does not
+run "an output that takes nothing" /dev/full < <(yes "$(printf 'GA"T">1\r')" 2>/dev/null)
+echo "ok: the program ends where the output takes nothing"
 
 # a reply comes before the program waits for more
 python3 - "$program" <<'P' || failed=1
 import subprocess, sys
-p = subprocess.Popen([sys.argv[1]], stdin=subprocess.PIPE, stdout=subprocess.PIPE)
+p = subprocess.Popen(["timeout", "20", sys.argv[1]], stdin=subprocess.PIPE, stdout=subprocess.PIPE)
 for line, reply in [(b'GA"S">1\r', b'GA"S">1=F\r'), (b'SA"S">1=O\r', b'\x06\r'), (b'GA"S">1\r', b'GA"S">1=O\r')]:
     p.stdin.write(line)
     p.stdin.flush()
@@ -76,44 +96,38 @@ for line, reply in [(b'GA"S">1\r', b'GA"S">1=F\r'), (b'SA"S">1=O\r', b'\x06\r'),
         sys.exit(1)
 p.stdin.close()
 rest = p.stdout.read()
-p.wait()
-print("ok: each reply comes before more input" if rest == b"" else "FAILED: bytes after the last reply")
-sys.exit(rest != b"")
+right = p.wait() == 0 and rest == b""
+print("ok: each reply comes before more input" if right else "FAILED: bytes after the last reply, or no end")
+sys.exit(not right)
 P
 
 # tables that are refused
 printf 'refused 1\r' >refused
-refuses() { # WHAT
-    "$program" <input >got
-    same "refused: $1" got refused
-}
 rm table
-refuses "no table"
+replies "refused: no table" refused <input
 mkdir table
-refuses "a folder for a table"
+replies "refused: a folder for a table" refused <input
 rmdir table
 python3 -c 'import sys; sys.stdout.buffer.write(b"".join(bytes([2]) + b"S" + bytes(31) for _ in range(64)) + bytes([2]))' >table
-refuses "a table of 2,113 bytes"
+replies "refused: a table of 2,113 bytes" refused <input
 python3 -c 'import sys; sys.stdout.buffer.write(b"".join(bytes([2]) + b"S" + bytes(31) for _ in range(65)))' >table
-refuses "65 records"
+replies "refused: 65 records" refused <input
 printf '\7T' >table
-refuses "an unknown kind"
+replies "refused: an unknown kind" refused <input
 if [ "$(id -u)" != 0 ]; then
     cp "$here/crates/port/data/table" table
     chmod 000 table
-    refuses "a table that may not be read"
+    replies "refused: a table that may not be read" refused <input
     rm -f table
 fi
 
 # the longest table, and the empty one
 python3 -c 'import sys; sys.stdout.buffer.write(b"".join(bytes([5]) + b"R%02d" % i + bytes(29) for i in range(64)))' >table
-printf 'GA"R63">2>18\rGA"R00">0>8\r' | "$program" >got
 printf 'GA"R63">2>18=F\rGA"R00">0>8=-6.0\r' >wanted
-same "64 records of 33 rows" got wanted
+replies "64 records of 33 rows" wanted < <(printf 'GA"R63">2>18\rGA"R00">0>8\r')
 : >table
-printf 'GA"T">1\rx\r' | "$program" >got
 printf '\02501\r\02599\r' >wanted
-same "an empty table" got wanted
+replies "an empty table" wanted < <(printf 'GA"T">1\rx\r')
 
 [ $failed = 0 ] && echo "port-cuts: all as it must be"
 exit $failed

@@ -24,9 +24,8 @@ static void line(const char *text, const char *reply, size_t place, int64_t valu
     uint8_t port[EGRIVUNDO_PORT_BYTES] = {0};
     uint8_t buffer[EGRIVUNDO_REPLY_BYTES] = {0};
     uint64_t told[EGRIVUNDO_PORT_TOLD] = {0};
-    uint8_t answer = egrivundo_port(table, sizeof table, values, 7, port, sizeof port,
-                                    (const uint8_t *)text, strlen(text), buffer,
-                                    sizeof buffer, told, EGRIVUNDO_PORT_TOLD);
+    uint8_t answer = egrivundo_port(table, sizeof table, values, 7, port, (const uint8_t *)text,
+                                    strlen(text), buffer, sizeof buffer, told);
     expected[place] = value;
     expect(answer == EGRIVUNDO_OK, text);
     expect(told[0] == strlen(text) && told[1] == strlen(reply), text);
@@ -44,24 +43,46 @@ static void restore(void)
     uint8_t buffer[43] = {0};
     uint64_t told[EGRIVUNDO_RESTORE_TOLD] = {9, 9};
     uint8_t answer = egrivundo_restore(table, sizeof table, present, 7, selection, 2, wanted, 7,
-                                       buffer, 42, told, EGRIVUNDO_RESTORE_TOLD);
+                                       buffer, 42, told);
     expect(answer == EGRIVUNDO_REFUSED_LIST && told[0] == 0 && told[1] == 0, "a buffer of 42");
     expect(buffer[0] == 0, "a refusal writes nothing");
     answer = egrivundo_restore(table, sizeof table, present, 7, selection, 2, wanted, 7, buffer,
-                               43, told, EGRIVUNDO_RESTORE_TOLD);
+                               43, told);
     expect(answer == EGRIVUNDO_OK && told[0] == 43 && told[1] == 4, "a buffer of 43");
     expect(memcmp(buffer, list, 43) == 0, "the list");
+}
+
+/* An overrun byte of 7 says overrun; it is stored as 1 once bytes are given. */
+static void overrun(void)
+{
+    int64_t values[7] = {0};
+    uint8_t port[EGRIVUNDO_PORT_BYTES] = {0};
+    uint8_t buffer[EGRIVUNDO_REPLY_BYTES] = {0};
+    uint64_t told[EGRIVUNDO_PORT_TOLD] = {9, 9};
+    const uint8_t given[2] = {'x', '\r'};
+    uint8_t answer;
+    port[1] = 7;
+    answer = egrivundo_port(table, sizeof table, values, 7, port, given, 0, buffer, 64, told);
+    expect(answer == EGRIVUNDO_OK && told[0] == 0 && told[1] == 0, "no bytes given");
+    expect(port[1] == 7, "no bytes given change nothing");
+    told[0] = 9;
+    answer = egrivundo_port(table, sizeof table, values, 7, port, given, 1, buffer, 63, told);
+    expect(answer == EGRIVUNDO_REFUSED_REPLY && told[0] == 0 && port[1] == 7, "a refusal");
+    answer = egrivundo_port(table, sizeof table, values, 7, port, given, 1, buffer, 64, told);
+    expect(answer == EGRIVUNDO_OK && told[0] == 1 && port[1] == 1, "an overrun line goes on");
+    answer = egrivundo_port(table, sizeof table, values, 7, port, given, 2, buffer, 64, told);
+    expect(answer == EGRIVUNDO_OK && told[0] == 2 && told[1] == 4, "an overrun line ends");
+    expect(memcmp(buffer, "\x15" "99\r", 4) == 0 && port[0] == 0 && port[1] == 0, "one 99");
 }
 
 static void show(void)
 {
     static const char text[] = "GA\"S\">1";
     uint64_t told[EGRIVUNDO_LOG_TOLD] = {9, 9, 9};
-    uint8_t answer = egrivundo_log(table, sizeof table, (const uint8_t *)text, strlen(text), told,
-                                   EGRIVUNDO_LOG_TOLD);
-    expect(answer == 0 && told[0] == 1 && told[1] == 34 && told[2] == 1, "the log");
-    answer = egrivundo_log(table, sizeof table, (const uint8_t *)text, strlen(text), told, 2);
-    expect(answer == EGRIVUNDO_SHAPE && told[1] == 34, "two numbers told by the log");
+    egrivundo_log(table, sizeof table, (const uint8_t *)text, strlen(text), told);
+    expect(told[0] == 1 && told[1] == 34 && told[2] == 1, "the log");
+    egrivundo_log(table, sizeof table - 1, (const uint8_t *)text, strlen(text), told);
+    expect(told[0] == 0 && told[1] == 0 && told[2] == 0, "the log over a cut table");
 }
 
 int main(void)
@@ -84,6 +105,7 @@ int main(void)
     line("SA\"T\">1>0=1\r", "\x15" "02\r", 0, 0);
     line("SA\"T\">1\r", "\x15" "99\r", 0, 0);
     restore();
+    overrun();
     show();
     if (!wrong) {
         printf("ok\n");

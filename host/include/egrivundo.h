@@ -1,12 +1,20 @@
 /* The C interface of the sound box's control core.
  *
  * Link target/staticlib/libcapi.a, which `rt staticlib capi` makes at the
- * repository's root. It needs memcpy and nothing else.
+ * repository's root, into a program for x86-64. It needs memcpy and nothing
+ * else.
  *
- * A lent slice is a pointer and a count, in this order. A count is a number
- * of elements and not of bytes. Give a pointer that is not null even where
- * the count is 0. A slice without const may overlap no other slice of its
- * call. No function keeps a pointer, allocates, or has a state of its own.
+ * A lent slice is a pointer and a count, in this order; a count is a number
+ * of elements and not of bytes. A block of fixed size is a pointer alone:
+ * uint8_t port[66], uint64_t told[2]. Whatever stands in them, and whatever
+ * is counted, every call gives one of its answers and returns. No function
+ * keeps a pointer, allocates, or has a state of its own.
+ *
+ * The caller answers for what no function in C can test:
+ *   - a pointer leads to as many elements as its count or its block has,
+ *     aligned for them, and is not null even where the count is 0;
+ *   - a slice or block without const overlaps no other of its call;
+ *   - nothing else writes to what is lent before the call returns.
  */
 #ifndef EGRIVUNDO_H
 #define EGRIVUNDO_H
@@ -39,8 +47,7 @@ extern "C" {
 #define EGRIVUNDO_FEEDBACK_SUPPRESSION 6   /*  2 values */
 
 /* Answers. With 1 to 8 the told numbers become 0 and nothing else changes;
- * where several apply, the lowest is given. With 255, which comes before
- * all others, nothing changes at all. */
+ * where several apply, the lowest is given. */
 #define EGRIVUNDO_OK 0                /* accepted                             */
 #define EGRIVUNDO_REFUSED_TABLE 1     /* the table is not sound               */
 #define EGRIVUNDO_REFUSED_VALUES 2    /* values: wrong length, or one that is
@@ -54,34 +61,43 @@ extern "C" {
 #define EGRIVUNDO_REFUSED_REACH 7     /* a wanted change is on a read-only row
                                        * or on a label of several modules     */
 #define EGRIVUNDO_REFUSED_LIST 8      /* the list does not fit its buffer     */
-#define EGRIVUNDO_SHAPE 255           /* port not 66 bytes or its overrun byte
-                                       * over 1, or told not as long as the
-                                       * call wants it                        */
 
 /* Whether a table is sound.
  *   table  records of 33 bytes, 0 to 64 of them
  * Answers 0 (sound) or 1 (not sound). */
 uint8_t egrivundo_table(const uint8_t *table, size_t table_count);
 
+/* Finds the label that a line means, for a log.
+ *   table  any bytes; over a table that is not sound the part is empty
+ *   line   any bytes, of any length
+ *   told   [0] 1 where the part stands in the table, 0 where it stands in
+ *          the line, [1] its start there, [2] its length. The empty part at
+ *          the line's start is 0, 0, 0 */
+void egrivundo_log(const uint8_t *table, size_t table_count,
+                   const uint8_t *line, size_t line_count,
+                   uint64_t told[EGRIVUNDO_LOG_TOLD]);
+
 /* One call on a port: takes the given bytes through the first 0x0D, or all
  * where there is none, and serves a line that it ends.
  *   table   a sound table
  *   values  one for each parameter: levels in tenths of a dB, switches 0 or
  *           1, numbers as they are; a line that is acknowledged sets one
- *   port    66 bytes: [0] how many bytes are held (0 to 64), [1] overrun
- *           (0 or 1), [2..] the held bytes. All zero is the fresh port. What
- *           stands past the held bytes, and the held bytes of an overrun
- *           port, mean nothing
+ *   port    [0] how many bytes are held (0 to 64), [1] overrun (0 no, any
+ *           other byte yes), [2..] the held bytes. All zero is the fresh
+ *           port. What stands past the held bytes, and the held bytes of an
+ *           overrun port, mean nothing. An accepted call that is given
+ *           bytes stores 0 or 1 at [1]; one that is given none, and a
+ *           refused one, leave all 66 bytes as they were
  *   given   the bytes that have come
  *   reply   at least 64 bytes; the reply is put at its start, the rest stays
- *   told    2 numbers: [0] bytes consumed, [1] length of the reply (0: none)
- * Answers 0, 1, 2, 3, 4 or 255. */
+ *   told    [0] bytes consumed, [1] length of the reply (0: none)
+ * Answers 0, 1, 2, 3 or 4. */
 uint8_t egrivundo_port(const uint8_t *table, size_t table_count,
                        int64_t *values, size_t values_count,
-                       uint8_t *port, size_t port_count,
+                       uint8_t port[EGRIVUNDO_PORT_BYTES],
                        const uint8_t *given, size_t given_count,
                        uint8_t *reply, size_t reply_count,
-                       uint64_t *told, size_t told_count);
+                       uint64_t told[EGRIVUNDO_PORT_TOLD]);
 
 /* Writes the shortest list of SA lines that brings the chosen modules from
  * the present values to the wanted ones and moves nothing else.
@@ -90,25 +106,14 @@ uint8_t egrivundo_port(const uint8_t *table, size_t table_count,
  *   selection  one byte for each module: 1 chosen, 0 not
  *   wanted     as many as present; only entries of chosen modules count
  *   list       the list is put at its start, the rest stays
- *   told       2 numbers: [0] bytes written, [1] lines written
- * Answers 0, 1, 2, 5, 6, 7, 8 or 255. */
+ *   told       [0] bytes written, [1] lines written
+ * Answers 0, 1, 2, 5, 6, 7 or 8. */
 uint8_t egrivundo_restore(const uint8_t *table, size_t table_count,
                           const int64_t *present, size_t present_count,
                           const uint8_t *selection, size_t selection_count,
                           const int64_t *wanted, size_t wanted_count,
                           uint8_t *list, size_t list_count,
-                          uint64_t *told, size_t told_count);
-
-/* Finds the label that a line means, for a log.
- *   table  any bytes
- *   line   any bytes, of any length
- *   told   3 numbers: [0] 1 where the part stands in the table, 0 where it
- *          stands in the line, [1] its start there, [2] its length. The
- *          empty part at the line's start is 0, 0, 0
- * Answers 0 or 255. */
-uint8_t egrivundo_log(const uint8_t *table, size_t table_count,
-                      const uint8_t *line, size_t line_count,
-                      uint64_t *told, size_t told_count);
+                          uint64_t told[EGRIVUNDO_RESTORE_TOLD]);
 
 #ifdef __cplusplus
 }

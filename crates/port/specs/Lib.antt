@@ -1,4 +1,3 @@
 -- The definitions of port.
 pub mod Input
-pub mod Reading
-pub mod Start
+pub mod Table

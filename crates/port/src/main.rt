@@ -1,4 +1,5 @@
 // Serves the lines of standard input over the module table in the file `table`, and writes the replies alone.
+mod bytes;
 mod input;
 mod standard_input;
 mod table;

@@ -1,57 +1,31 @@
-// Answering standard input: what a read gives is answered whole before the next.
+// One read of standard input: what it gives is answered, and the replies are written, before the next.
+use crate::bytes::answer_bytes;
 use libc::STDIN_FILENO;
 use libc::STDOUT_FILENO;
 use serial_port::port::Port;
-use serial_port::stream::serve_all;
 ghost use mathlib.Core.Bool.{true};
 ghost use mathlib.Core.Path.{_≡_};
-ghost use Prim.Native.Nat.{_≤_};
+ghost use Prim.Native.Nat.{_*_, _≤_};
 ghost use lib.ListN.{length};
 ghost use Rattle.catalogue.specs.Catalogue.{numbers};
 ghost use Rattle.room.specs.Table.{sound};
 ghost use Rattle.values.specs.Values.{valuesSound};
-ghost use Rattle.port.specs.Input.{Answers, AnswersRead};
+ghost use Rattle.port.specs.Input.{AnswersRead};
 
-// The port after some bytes, and whether to go on: not where a reply could not be written, or nothing came.
-pub struct Answered {
+// What came of a read: nothing, or so many bytes, whose replies were written, or could not be.
+pub enum Came {
+    Nothing,
+    Written(usize),
+    Unwritten(usize),
+}
+
+// The port after a read, and what came of it.
+pub struct Turn {
     pub port: Port,
-    pub written: bool,
+    pub came: Came,
 }
 
-// Answers the given bytes: their replies are written as they fill `out`.
-fn answer_bytes(
-    table: &[u8],
-    rows: &[[i32; 8]; 50],
-    values: &mut [i64],
-    port: Port,
-    given: &[u8],
-    out: &mut [u8],
-) -> Answered
-    requires { ⌜ (sound (now table) ≡ true) × (now rows ≡ numbers) × (valuesSound (now table) (now values) ≡ true) ⌝ }
-    requires { ⌜ (port .len ≤ 64) × (64 ≤ length (now out)) ⌝ }
-    ensures { λ r. ⌜ Answers (now (table .entry)) (now (values .entry)) port (now (given .entry)) r (now (values .exit)) ⌝ }
-{
-    let mut port = port;
-    let mut at = 0;
-    while at < given.len() {
-        let served = serve_all(table, rows, values, port, &given[at..], out);
-        port = served.port;
-        at += served.consumed;
-        let sent = served.sent;
-        if !io::write_all(STDOUT_FILENO, &out[..sent]) {
-            return Answered {
-                port: port,
-                written: false,
-            };
-        }
-    }
-    Answered {
-        port: port,
-        written: true,
-    }
-}
-
-// Answers one read, and tells whether there may be more.
+// Answers one read. Which bytes come, and which are written, is outside the proof.
 pub(crate) fn answer_read(
     table: &[u8],
     rows: &[[i32; 8]; 50],
@@ -59,18 +33,30 @@ pub(crate) fn answer_read(
     port: Port,
     input: &mut [u8],
     out: &mut [u8],
-) -> Answered
+) -> Turn
     requires { ⌜ (sound (now table) ≡ true) × (now rows ≡ numbers) × (valuesSound (now table) (now values) ≡ true) ⌝ }
-    requires { ⌜ (port .len ≤ 64) × (64 ≤ length (now out)) ⌝ }
-    ensures { λ r. ⌜ AnswersRead (now (table .entry)) (now (values .entry)) port (now (input .exit)) r (now (values .exit)) ⌝ }
+    requires { ⌜ (port .len ≤ 64) × (64 * length (now input) ≤ length (now out)) ⌝ }
+    ensures { λ r. ⌜ AnswersRead (now (table .entry)) (now (values .entry)) port (now (input .exit)) (now (out .entry)) r (now (values .exit)) (now (out .exit)) ⌝ }
 {
     let got = libc::read(STDIN_FILENO, input);
     let count = io::count(got, input);
     if count == 0 {
-        return Answered {
+        return Turn {
             port: port,
-            written: false,
+            came: Came::Nothing,
         };
     }
-    answer_bytes(table, rows, values, port, &input[..count], out)
+    let answered = answer_bytes(table, rows, values, port, &input[..count], out);
+    let after = answered.port;
+    let sent = answered.sent;
+    if !io::write_all(STDOUT_FILENO, &out[..sent]) {
+        return Turn {
+            port: after,
+            came: Came::Unwritten(count),
+        };
+    }
+    Turn {
+        port: after,
+        came: Came::Written(count),
+    }
 }

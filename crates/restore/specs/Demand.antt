@@ -6,6 +6,7 @@ pub mod Lines
 pub mod Made
 pub mod Played
 pub mod Rules
+pub mod Telling
 pub mod Testing
 use mathlib.Core.Path.{_≡_}
 use mathlib.Core.Bool.{true, false}

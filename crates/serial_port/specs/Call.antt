@@ -4,6 +4,7 @@ pub mod Finishing
 pub mod Laws
 pub mod Rules
 pub mod Serving
+pub mod Telling
 use mathlib.Core.Path.{_≡_}
 use mathlib.Core.Bool.{cond}
 use mathlib.Core.List.{List, []}

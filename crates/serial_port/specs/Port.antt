@@ -1,6 +1,7 @@
 -- What a port is to its user: the unfinished line, of up to 64 bytes, or that it has overrun.
 pub mod Collecting
 pub mod Laws
+pub mod Seen
 use mathlib.Core.Path.{_≡_}
 use mathlib.Core.Bool.{true, false, cond}
 use mathlib.Core.List.{List, [], _++_}

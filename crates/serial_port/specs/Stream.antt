@@ -2,8 +2,9 @@
 pub mod Calls
 pub mod Consuming
 pub mod Flow
-pub mod Laws
+pub mod Kept
 pub mod Turns
+pub mod Whole
 use mathlib.Core.Path.{_≡_}
 use mathlib.Core.Bool.{cond}
 use mathlib.Core.List.{List, [], _∷_, _++_}

@@ -3,6 +3,7 @@ pub mod Admitting
 pub mod Beyond
 pub mod Counted
 pub mod Numbers
+pub mod Telling
 use mathlib.Core.Bool.{Bool, true, false, cond, _&&_}
 use mathlib.Core.Path.{_≡_}
 use mathlib.Core.List.{List, [], _∷_, _++_}

@@ -2,10 +2,10 @@
 
 #![forbid(unsafe_code)]
 
-type Port = fn(&[u8], &mut [i64], &mut [u8], &[u8], &mut [u8], &mut [u64]) -> u8;
-type Restore = fn(&[u8], &[i64], &[u8], &[i64], &mut [u8], &mut [u64]) -> u8;
+type Port = fn(&[u8], &mut [i64], &mut [u8; 66], &[u8], &mut [u8], &mut [u64; 2]) -> u8;
+type Restore = fn(&[u8], &[i64], &[u8], &[i64], &mut [u8], &mut [u64; 2]) -> u8;
 
-/// The four calls of a core, over slices.
+/// The four calls of a core, over slices and blocks of fixed size.
 pub struct Calls {
     /// Of a table.
     pub table: fn(&[u8]) -> u8,
@@ -14,7 +14,7 @@ pub struct Calls {
     /// Of table, present values, selection, wanted values, list, told.
     pub restore: Restore,
     /// Of table, line, told.
-    pub log: fn(&[u8], &[u8], &mut [u64]) -> u8,
+    pub log: fn(&[u8], &[u8], &mut [u64; 3]),
 }
 
 /// The reference.

@@ -18,6 +18,13 @@ pub const MISTAKES: &[Mistake] = &[
         "return Part { in_table: false, start: 0, length: line.len().min(1) };\n    };\n    let Some((before",
     ),
     (
+        "log_untold",
+        "the log leaves its numbers where the part is empty",
+        "lib.rs",
+        "    *told = [part.in_table",
+        "    if part.length == 0 {\n        return;\n    }\n    *told = [part.in_table",
+    ),
+    (
         "log_place",
         "the log's label starts at its record",
         "log.rs",

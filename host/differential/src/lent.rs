@@ -22,6 +22,15 @@ impl<T: Copy + PartialEq> Lent<T> {
         &mut self.cells[GUARD..end]
     }
 
+    /// The same as a block of its size.
+    ///
+    /// # Panics
+    ///
+    /// Where it is of another size.
+    pub fn block<const SIZE: usize>(&mut self) -> &mut [T; SIZE] {
+        self.lend().try_into().expect("the block has its size")
+    }
+
     pub fn view(&self) -> &[T] {
         &self.cells[GUARD..self.cells.len() - GUARD]
     }

@@ -1,9 +1,8 @@
-//! The four calls of the archive over slices, with their bare numbers.
+//! The four calls of the archive over slices and blocks of fixed size, with
+//! their bare numbers.
 //!
-//! 255 comes before every other answer where the port is not 66 bytes long
-//! or its overrun byte is over 1, or `told` has not the call's length; it
-//! changes nothing. The numbers 1 to 8 are those of [`Refusal`]; they set
-//! `told` to zero and change nothing else.
+//! The numbers 1 to 8 are those of [`Refusal`]; with them `told` is set to
+//! zero and nothing else changes.
 //!
 //! [`Refusal`]: crate::Refusal
 
@@ -14,19 +13,25 @@
 extern "C" {
     fn egrivundo_table(table: *const u8, table_count: usize) -> u8;
 
+    fn egrivundo_log(
+        table: *const u8,
+        table_count: usize,
+        line: *const u8,
+        line_count: usize,
+        told: *mut [u64; 3],
+    );
+
     fn egrivundo_port(
         table: *const u8,
         table_count: usize,
         values: *mut i64,
         values_count: usize,
-        port: *mut u8,
-        port_count: usize,
+        port: *mut [u8; 66],
         given: *const u8,
         given_count: usize,
         reply: *mut u8,
         reply_count: usize,
-        told: *mut u64,
-        told_count: usize,
+        told: *mut [u64; 2],
     ) -> u8;
 
     fn egrivundo_restore(
@@ -40,23 +45,14 @@ extern "C" {
         wanted_count: usize,
         list: *mut u8,
         list_count: usize,
-        told: *mut u64,
-        told_count: usize,
-    ) -> u8;
-
-    fn egrivundo_log(
-        table: *const u8,
-        table_count: usize,
-        line: *const u8,
-        line_count: usize,
-        told: *mut u64,
-        told_count: usize,
+        told: *mut [u64; 2],
     ) -> u8;
 }
 
-// Safety of all four: each pointer and count come from one slice, so they
-// are valid for the call; the unique slices overlap nothing, since Rust lent
-// them so; and the archive keeps no pointer.
+// Safety of all four: each pointer and count come from one slice, and each
+// pointer alone from a block of the size that the call takes, so they are
+// valid for the call; the unique ones overlap nothing, since Rust lent them
+// so; and the archive keeps no pointer.
 
 /// Whether a table is sound: 0, or 1 where it is not.
 ///
@@ -69,8 +65,22 @@ pub fn table(table: &[u8]) -> u8 {
     unsafe { egrivundo_table(table.as_ptr(), table.len()) }
 }
 
-/// One call on a port of 66 bytes. `told` (2 numbers) becomes the bytes
-/// consumed and the reply's length.
+/// The label that a line means. `told` becomes 1 for the table or 0 for the
+/// line, the start of the part there, and its length.
+///
+/// ```
+/// let mut told = [9; 3];
+/// egrivundo::calls::log(&[], b"GA\"Q q\">1", &mut told);
+/// assert_eq!(told, [0, 3, 3]);
+/// ```
+#[inline]
+pub fn log(table: &[u8], line: &[u8], told: &mut [u64; 3]) {
+    unsafe { egrivundo_log(table.as_ptr(), table.len(), line.as_ptr(), line.len(), told) }
+}
+
+/// One call on a port. `told` becomes the bytes consumed and the reply's
+/// length. Any overrun byte but 0 is read as overrun; it is stored as 0 or 1
+/// where bytes are given, and a call given none leaves all 66 bytes.
 ///
 /// ```
 /// let mut port = [0; 66];
@@ -85,10 +95,10 @@ pub fn table(table: &[u8]) -> u8 {
 pub fn port(
     table: &[u8],
     values: &mut [i64],
-    port: &mut [u8],
+    port: &mut [u8; 66],
     given: &[u8],
     reply: &mut [u8],
-    told: &mut [u64],
+    told: &mut [u64; 2],
 ) -> u8 {
     unsafe {
         egrivundo_port(
@@ -96,19 +106,17 @@ pub fn port(
             table.len(),
             values.as_mut_ptr(),
             values.len(),
-            port.as_mut_ptr(),
-            port.len(),
+            port,
             given.as_ptr(),
             given.len(),
             reply.as_mut_ptr(),
             reply.len(),
-            told.as_mut_ptr(),
-            told.len(),
+            told,
         )
     }
 }
 
-/// The restore list. `told` (2 numbers) becomes its bytes and lines.
+/// The restore list. `told` becomes its bytes and lines.
 #[inline]
 pub fn restore(
     table: &[u8],
@@ -116,7 +124,7 @@ pub fn restore(
     selection: &[u8],
     wanted: &[i64],
     list: &mut [u8],
-    told: &mut [u64],
+    told: &mut [u64; 2],
 ) -> u8 {
     unsafe {
         egrivundo_restore(
@@ -130,24 +138,7 @@ pub fn restore(
             wanted.len(),
             list.as_mut_ptr(),
             list.len(),
-            told.as_mut_ptr(),
-            told.len(),
-        )
-    }
-}
-
-/// The label that a line means. `told` (3 numbers) becomes 1 for the table or
-/// 0 for the line, the start of the part there, and its length.
-#[inline]
-pub fn log(table: &[u8], line: &[u8], told: &mut [u64]) -> u8 {
-    unsafe {
-        egrivundo_log(
-            table.as_ptr(),
-            table.len(),
-            line.as_ptr(),
-            line.len(),
-            told.as_mut_ptr(),
-            told.len(),
+            told,
         )
     }
 }

@@ -1,7 +1,7 @@
 //! A safe interface to the proved control core of a viewing room's sound box.
 //!
-//! [`calls`] has the four functions of the archive over slices. [`Room`],
-//! [`Port`] and [`List`] stand above them.
+//! [`calls`] has the four functions of the archive over slices and blocks of
+//! fixed size. [`Room`], [`Port`] and [`List`] stand above them.
 //!
 //! ```
 //! use egrivundo::{Port, Room, Type};

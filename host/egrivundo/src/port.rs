@@ -33,7 +33,8 @@ impl Port {
         }
     }
 
-    /// The port of these bytes: held count, overrun, held bytes.
+    /// The port of these bytes: held count, overrun (0 no, any other byte
+    /// yes), held bytes.
     ///
     /// ```
     /// use egrivundo::{Port, Refusal};
@@ -47,9 +48,6 @@ impl Port {
     /// # Ok::<(), Refusal>(())
     /// ```
     pub fn from_bytes(bytes: [u8; Port::BYTES]) -> Result<Port, Refusal> {
-        if bytes[1] > 1 {
-            return Err(Refusal::Shape);
-        }
         if usize::from(bytes[0]) > Port::HELD {
             return Err(Refusal::Port);
         }
@@ -58,7 +56,7 @@ impl Port {
 
     /// Whether the line has grown over 64 bytes.
     pub fn overrun(&self) -> bool {
-        self.bytes[1] == 1
+        self.bytes[1] != 0
     }
 
     /// The bytes of the unfinished line; none after an overrun.

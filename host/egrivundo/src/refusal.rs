@@ -21,8 +21,6 @@ pub enum Refusal {
     Reach = 7,
     /// The list buffer is too short.
     List = 8,
-    /// The arguments are not in the interface's shape.
-    Shape = 255,
 }
 
 impl Refusal {
@@ -47,7 +45,6 @@ impl Refusal {
             6 => Refusal::Wanted,
             7 => Refusal::Reach,
             8 => Refusal::List,
-            255 => Refusal::Shape,
             _ => panic!("the archive answered {answer}, which is no refusal"),
         })
     }
@@ -66,7 +63,6 @@ impl fmt::Display for Refusal {
                 "a wanted change is beyond reach: its row is read-only or its label is shared"
             }
             Refusal::List => "the list buffer is too short",
-            Refusal::Shape => "the arguments are not in the interface's shape",
         };
         write!(out, "refused with {}: {reason}", self.number())
     }

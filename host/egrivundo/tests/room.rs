@@ -98,9 +98,11 @@ fn overrun_ports_are_equal() {
     let mut port = Port::new();
     assert!(room.feed(&mut port, &[b'x'; 65]).unwrap().reply.is_empty());
     assert!(port.overrun());
-    let mut bytes = [0; 66];
-    bytes[1] = 1;
-    assert_eq!(port, Port::from_bytes(bytes).unwrap());
+    for overrun in [1, 2, 7, 255] {
+        let mut bytes = [0; 66];
+        bytes[1] = overrun;
+        assert_eq!(port, Port::from_bytes(bytes).unwrap());
+    }
     assert_ne!(port, Port::new());
     assert_eq!(room.feed(&mut port, b"\r").unwrap().reply.nak(), Some("99"));
     assert!(port.is_fresh());

@@ -1,8 +1,9 @@
 //! The paper once more, in plain safe Rust.
 //!
 //! The four functions here take the same arguments as the C functions of the
-//! archive, as slices, and answer with the same numbers, so that the two can
-//! be compared byte for byte. Nothing here allocates.
+//! archive, as slices and blocks of fixed size, and answer with the same
+//! numbers, so that the two can be compared byte for byte. Nothing here
+//! allocates.
 
 #![forbid(unsafe_code)]
 
@@ -16,8 +17,6 @@ mod text;
 
 /// Bytes that a port lends: held count, overrun, held bytes.
 pub const PORT_BYTES: usize = 66;
-/// The answer for arguments that are not in the interface's shape.
-pub const SHAPE: u8 = 255;
 
 /// A refusal: the paper's number.
 type Refusal = u8;
@@ -30,24 +29,22 @@ pub fn table(table: &[u8]) -> u8 {
     }
 }
 
+/// The label that a line means. `told` becomes 1 for the table or 0 for the
+/// line, the start of the part and its length.
+pub fn log(table: &[u8], line: &[u8], told: &mut [u64; 3]) {
+    let part = log::part(table, line);
+    *told = [part.in_table as u64, part.start as u64, part.length as u64];
+}
+
 /// One port call. `told` becomes bytes consumed and reply length.
 pub fn port(
     table: &[u8],
     values: &mut [i64],
-    port: &mut [u8],
+    port: &mut [u8; PORT_BYTES],
     given: &[u8],
     reply: &mut [u8],
-    told: &mut [u64],
+    told: &mut [u64; 2],
 ) -> u8 {
-    let Ok(port) = <&mut [u8; PORT_BYTES]>::try_from(port) else {
-        return SHAPE;
-    };
-    let Ok(told) = <&mut [u64; 2]>::try_from(told) else {
-        return SHAPE;
-    };
-    if port[1] > 1 {
-        return SHAPE;
-    }
     tell(told, port::call(table, values, port, given, reply))
 }
 
@@ -58,23 +55,9 @@ pub fn restore(
     selection: &[u8],
     wanted: &[i64],
     list: &mut [u8],
-    told: &mut [u64],
+    told: &mut [u64; 2],
 ) -> u8 {
-    let Ok(told) = <&mut [u64; 2]>::try_from(told) else {
-        return SHAPE;
-    };
     tell(told, restore::call(table, present, selection, wanted, list))
-}
-
-/// The label that a line means. `told` becomes 1 for the table or 0 for the
-/// line, the start of the part and its length.
-pub fn log(table: &[u8], line: &[u8], told: &mut [u64]) -> u8 {
-    let Ok(told) = <&mut [u64; 3]>::try_from(told) else {
-        return SHAPE;
-    };
-    let part = log::part(table, line);
-    *told = [part.in_table as u64, part.start as u64, part.length as u64];
-    0
 }
 
 fn tell(told: &mut [u64; 2], answer: Result<(usize, usize), Refusal>) -> u8 {

@@ -7,7 +7,7 @@ use super::{line, Refusal, PORT_BYTES};
 const MOST: usize = 64;
 const REPLY: usize = 64;
 
-/// One call on a port in its shape: bytes consumed and reply length.
+/// One call on a port: bytes consumed and reply length.
 pub fn call(
     table: &[u8],
     values: &mut [i64],
@@ -25,6 +25,10 @@ pub fn call(
     if usize::from(port[0]) > MOST {
         return Err(4);
     }
+    // Zero bytes given change nothing, whatever stands in the port.
+    if given.is_empty() {
+        return Ok((0, 0));
+    }
     match given.iter().position(|&byte| byte == b'\r') {
         None => {
             collect(port, given);
@@ -32,7 +36,7 @@ pub fn call(
         }
         Some(end) => {
             collect(port, &given[..end]);
-            let length = if port[1] == 1 {
+            let length = if port[1] != 0 {
                 line::overrun(reply)
             } else {
                 let line = &port[2..2 + usize::from(port[0])];
@@ -45,13 +49,11 @@ pub fn call(
     }
 }
 
-/// Adds bytes of a line that goes on; the 65th makes the port overrun.
+/// Adds bytes of a line that goes on; the 65th makes the port overrun. Any
+/// overrun byte but 0 is read as overrun, and stored as 1.
 fn collect(port: &mut [u8; PORT_BYTES], bytes: &[u8]) {
     let held = usize::from(port[0]);
-    if port[1] == 1 || bytes.is_empty() {
-        return;
-    }
-    if held + bytes.len() > MOST {
+    if port[1] != 0 || held + bytes.len() > MOST {
         port[1] = 1;
         return;
     }

@@ -1,35 +1,69 @@
--- Laws of the port call for C: what 255 and a refusal leave, the fresh port's bytes, and that one call's port serves the next.
-use mathlib.Core.Path.{_≡_, refl}
-use mathlib.Core.Bool.{true, false}
+-- Laws of the port call for C: the fresh port's bytes, what a refusal and a call given no bytes leave, and that one call's port serves the next.
+use mathlib.Core.Path.{_≡_, refl, sym, _∙_, ap}
 use mathlib.Core.List.{List, [], _∷_}
-use Prim.Native.Nat.{ℕ, suc}
-use borrow.Author.Tests.{eq-eqb, le-leb}
+use Prim.Native.Nat.{ℕ, suc, _≤_}
 use lib.IntN.{ℤ}
 use lib.ListN.{length, getD, replicate}
-use Rattle.serial_port.specs.Port.{View, fresh, view}
-use Rattle.serial_port.specs.Call.{call, tell}
+use Rattle.line.specs.Answer.{answer}
+use Rattle.syntax.specs.Shape.{lineLimit}
+use Rattle.serial_port.specs.Port.{fresh, view}
+use Rattle.serial_port.specs.Port.Seen.{seen-fresh}
+use Rattle.serial_port.specs.Call.{step}
+use Rattle.serial_port.specs.Call.Telling.{call-number, refused-told, nothing-told, nothing-seen, served-claim}
 use Rattle.serial_port.specs.Refusal.{callNumber}
-use Rattle.capi.specs.Port.{Stores, counted, portAnswer, portLent, portOf, portTells}
-use Rattle.capi.specs.Counts.{misLent}
+use Rattle.capi.specs.Port.{Left, PortCalled, called, counted, portAnswer, portOf, portTells}
 
 -- 66 zero bytes are the fresh port
 pub zeros-fresh : view (portOf (replicate 66 0)) ≡ fresh
-unfolding view portOf fresh
-zeros-fresh = refl
+unfolding portOf
+zeros-fresh = seen-fresh (portOf (replicate 66 0)) refl refl
 
-module _ (t : List ℕ) (vs : List ℤ) (port given reply told : List ℕ) where
-  -- 255 changes nothing
-  pub answer-mislent : portLent port told ≡ false → portAnswer t vs port given reply told ≡ portTells misLent told vs reply
-  unfolding portAnswer
-  answer-mislent e = rw e refl
+claim-said : (port : List ℕ) → getD port 0 0 ≤ lineLimit → portOf port .len ≤ lineLimit
+unfolding portOf
+claim-said port h = h
 
+module _ (t : List ℕ) (vs : List ℤ) (port reply : List ℕ) where
   -- a refusal counts zero, and changes neither the values nor the reply buffer
-  pub answer-refused : (n : ℕ) → portLent port told ≡ true → callNumber t vs (length reply) (portOf port .len) ≡ suc n
-      → portAnswer t vs port given reply told ≡ portTells (suc n) (0 ∷ 0 ∷ []) vs reply
-  unfolding portAnswer counted call tell
-  answer-refused n l e = rw (l, e) refl
+  pub answer-refused : (given : List ℕ) (n : ℕ) → callNumber t vs (length reply) (portOf port .len) ≡ suc n
+      → portAnswer t vs port given reply ≡ portTells (suc n) (0 ∷ 0 ∷ []) vs reply
+  unfolding portAnswer counted
+  answer-refused given n e = rw (refused-told t vs (portOf port) given reply n e) refl
 
--- the port that a call leaves is lent rightly to the next call
-pub stored-lent : (v : View) (port told : List ℕ) → Stores v port → length told ≡ 2 → portLent port told ≡ true
-unfolding portLent
-stored-lent v port told s l = rw (eq-eqb (length port) 66 (s .long), le-leb (getD port 1 0) 1 (s .flag), eq-eqb (length told) 2 l) refl
+  -- nor does a call that is given no bytes
+  pub answer-nothing : callNumber t vs (length reply) (portOf port .len) ≡ 0 → portAnswer t vs port [] reply ≡ portTells 0 (0 ∷ 0 ∷ []) vs reply
+  unfolding portAnswer counted
+  answer-nothing e = rw (nothing-told t vs (portOf port) reply e) refl
+
+-- ---- the two parts of the promise
+
+module _ {t : List ℕ} {vs : List ℤ} {port given reply : List ℕ} {r : ℕ} {vs′ : List ℤ} {port′ reply′ told′ : List ℕ} where
+  pub answers-by : PortCalled t vs port given reply r vs′ port′ reply′ told′ → portTells r told′ vs′ reply′ ≡ portAnswer t vs port given reply
+  answers-by (called answers left) = answers
+
+  pub left-by : PortCalled t vs port given reply r vs′ port′ reply′ told′
+      → Left (callNumber t vs (length reply) (portOf port .len)) given port (step (answer t) vs (view (portOf port)) given .port) port′
+  left-by (called answers left) = left
+
+-- ---- the port's bytes
+
+module _ {t : List ℕ} {vs : List ℤ} {port given reply : List ℕ} {r : ℕ} {vs′ : List ℤ} {port′ reply′ told′ : List ℕ}
+    (c : PortCalled t vs port given reply r vs′ port′ reply′ told′) where
+  number-by : callNumber t vs (length reply) (portOf port .len) ≡ r
+  unfolding portTells portAnswer counted
+  number-by = sym (ap (λ a. a .number) (answers-by c) ∙ call-number t vs (portOf port) given reply)
+
+  -- a refusal leaves every byte as it was
+  pub refused-bytes : (n : ℕ) → r ≡ suc n → port′ ≡ port
+  refused-bytes n e = let l = left-by c in rw (number-by ∙ e) at l
+
+  -- an accepted call leaves a port that is seen as the call says, also where it is given no bytes, and that claims at most 64
+  pub served-seen : r ≡ 0 → (view (portOf port′) ≡ step (answer t) vs (view (portOf port)) given .port) × (portOf port′ .len ≤ lineLimit)
+  served-seen z = let l = left-by c in go given refl (rw (number-by ∙ z) at l)
+    where
+      go : (bs : List ℕ) → given ≡ bs → Left 0 bs port (step (answer t) vs (view (portOf port)) given .port) port′
+          → (view (portOf port′) ≡ step (answer t) vs (view (portOf port)) given .port) × (portOf port′ .len ≤ lineLimit)
+      go [] e l = (
+        rw (l, e) (sym (nothing-seen t vs (portOf port) reply (number-by ∙ z))),
+        rw l (served-claim t vs (length reply) (portOf port .len) (number-by ∙ z)),
+      )
+      go (b ∷ bs) e s = (s .seen, claim-said port′ (s .few))

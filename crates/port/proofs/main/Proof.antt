@@ -1,6 +1,6 @@
 -- `main`: input is served over a table that was found sound.
 use borrow.Author.Needs.{needs}
-use Rattle.port.specs.Start.{table-rules}
+use Rattle.port.specs.Input.Start.{table-rules}
 use Rattle.port.proofs.main.Statement.{statement}
 use Rattle.port.proofs.main.Tie as tie
 

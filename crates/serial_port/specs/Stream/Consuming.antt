@@ -58,7 +58,3 @@ module _ (t : List ℕ) where
       rw (le-ltb room 64 k)
       (ap (λ (k : ℕ). s .consumed + k)
       (enough (length bs) (suc (length bs) - s .consumed) (s .values) (s .port) (drop (s .consumed) (b ∷ bs)) (room - length (s .reply)) (rw long (omega arith)) (rw long (omega arith))))
-
-  -- where a byte is given and there is room, one or more are consumed
-  pub some-consumed : (vs : List ℤ) (v : View) (bs : List ℕ) (room : ℕ) → 1 ≤ length bs → 64 ≤ room → 1 ≤ consumes (length bs) t vs v bs room
-  some-consumed vs v bs room h k = rw (one-more vs v bs room h k) (omega (arith, consumed-some (answer t) v vs bs h))

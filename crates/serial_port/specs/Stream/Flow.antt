@@ -1,6 +1,6 @@
 -- Feeding nothing, and bytes in two parts: the second part is fed to the port and the values that the first one leaves.
-use mathlib.Core.Path.{_≡_}
-use mathlib.Core.List.{List, []}
+use mathlib.Core.Path.{_≡_, refl}
+use mathlib.Core.List.{List, [], _++_}
 use Prim.Native.Nat.{ℕ, _+_}
 use lib.IntN.{ℤ}
 use lib.ListN.{take, drop}
@@ -12,13 +12,34 @@ use Rattle.serial_port.specs.Play.Feed.{followed, feed-nothing, feed-app
 use Rattle.serial_port.specs.Stream.{flow}
 use Rattle.serial_port.specs.declared.port.Port.{Port}
 
-pub flow-nothing : (t : List ℕ) (vs : List ℤ) (p : Port) → flow t vs p [] ≡ ended (view p) vs
-unfolding flow
-flow-nothing t vs p = feed-nothing (answer t) (view p) vs
+module _ (t : List ℕ) (vs : List ℤ) (p : Port) where
+  pub flow-nothing : flow t vs p [] ≡ ended (view p) vs
+  unfolding flow
+  flow-nothing = feed-nothing (answer t) (view p) vs
 
--- `at` bytes of bs were fed and left vs′ and q, and n more follow
-pub flow-more : (t : List ℕ) (vs : List ℤ) (p : Port) (bs : List ℕ) (at : ℕ) (vs′ : List ℤ) (q : Port)
-    → vs′ ≡ flow t vs p (take at bs) .values → view q ≡ flow t vs p (take at bs) .port
-    → (n : ℕ) → flow t vs p (take (at + n) bs) ≡ followed (flow t vs p (take at bs)) (flow t vs′ q (take n (drop at bs)))
-unfolding flow
-flow-more t vs p bs at vs′ q v s n = rw (take-add at n bs, v, s) (feed-append (answer t) (view p) vs (take at bs) (take n (drop at bs)))
+  pub nothing-values : flow t vs p [] .values ≡ vs
+  unfolding ended
+  nothing-values = rw flow-nothing refl
+
+  pub nothing-seen : flow t vs p [] .port ≡ view p
+  unfolding ended
+  nothing-seen = rw flow-nothing refl
+
+  -- bs were fed and left vs′ and q, and more follow
+  module _ (bs : List ℕ) (vs′ : List ℤ) (q : Port) (v : vs′ ≡ flow t vs p bs .values) (s : view q ≡ flow t vs p bs .port) (more : List ℕ) where
+    pub flow-on : flow t vs p (bs ++ more) ≡ followed (flow t vs p bs) (flow t vs′ q more)
+    unfolding flow
+    flow-on = rw (v, s) (feed-append (answer t) (view p) vs bs more)
+
+    pub on-values : flow t vs p (bs ++ more) .values ≡ flow t vs′ q more .values
+    unfolding followed
+    on-values = rw flow-on refl
+
+    pub on-seen : flow t vs p (bs ++ more) .port ≡ flow t vs′ q more .port
+    unfolding followed
+    on-seen = rw flow-on refl
+
+  -- `at` bytes of bs were fed and left vs′ and q, and n more follow
+  pub flow-more : (bs : List ℕ) (at : ℕ) (vs′ : List ℤ) (q : Port) → vs′ ≡ flow t vs p (take at bs) .values → view q ≡ flow t vs p (take at bs) .port
+      → (n : ℕ) → flow t vs p (take (at + n) bs) ≡ followed (flow t vs p (take at bs)) (flow t vs′ q (take n (drop at bs)))
+  flow-more bs at vs′ q v s n = rw (take-add at n bs) (flow-on (take at bs) vs′ q v s (take n (drop at bs)))

@@ -25,12 +25,11 @@ use Rattle.serial_port.specs.Call.Accepted.{Accepted, accept, consumed-m
 use Rattle.serial_port.specs.Refusal.{replyLimit}
 use Rattle.serial_port.specs.Play.{ended}
 use Rattle.serial_port.specs.Play.Feed.{followed}
-use Rattle.serial_port.specs.Play.Kept.{step-keeps}
-use Rattle.serial_port.specs.Play.Laws.{Right, keeps-right}
 use Rattle.serial_port.specs.Stream.{joined, flow, consumes, Serves}
 use Rattle.serial_port.specs.Stream.Calls.{Once, feed-once, joined-append}
 use Rattle.serial_port.specs.Stream.Consuming.{none-left, no-room, one-more}
 use Rattle.serial_port.specs.Stream.Flow.{flow-nothing, flow-more}
+use Rattle.serial_port.specs.Stream.Kept.{step-right}
 use Rattle.serial_port.specs.declared.port.Port.{Port}
 use Rattle.serial_port.specs.declared.port.Called.{Called}
 use Rattle.values.specs.Values.Laws.{values-many}
@@ -98,7 +97,7 @@ module _ (t : List ℕ) (vs : List ℤ) (p : Port) (bs out : List ℕ) where
       fed = rw (done .consumed) (feed-once (answer t) (view q) vs′ (drop at bs) (claim-view q (h .few)))
 
       right-after : valuesSound t vs″ ≡ true
-      right-after = rw (done .values) (step-keeps (answer t) (Right t) (keeps-right t (h .sounds)) (view q) vs′ (drop at bs) (h .right))
+      right-after = rw (done .values) (step-right t vs′ (h .sounds) (h .right) (view q) (drop at bs))
 
       most : c .consumed ≤ length bs - at
       most = rw (done .consumed, ← (length-drop at bs)) (consumed-most (answer t) (view q) vs′ (drop at bs))

@@ -1,6 +1,6 @@
 //! Lines on a port.
 
-use super::buffers;
+use super::room_for_reply;
 use crate::compare::{Compare, Difference, Sides};
 use crate::grammar;
 use crate::rng::Rng;
@@ -16,7 +16,7 @@ pub fn feed(
     let first = grammar::line(rng, room);
     let mut sides = Sides::new(values, &rooms::port(rng, &first));
     // Mostly the stream goes on where the port's line was cut.
-    let held = sides.port().first().map_or(0, |&held| usize::from(held));
+    let held = usize::from(sides.port()[0]);
     let mut stream = match first.get(held..) {
         Some(rest) if rng.below(4) > 0 => rest.to_vec(),
         _ => first,
@@ -45,16 +45,15 @@ pub fn feed(
             _ => rng.below(90),
         };
         let piece = &rest[..length.min(rest.len())];
-        let buffers = buffers(rng);
-        match compare.port(rng, &room.table, &mut sides, piece, &buffers)? {
+        let reply = room_for_reply(rng);
+        match compare.port(rng, &room.table, &mut sides, piece, reply)? {
             Some(fed) => rest = &rest[fed.consumed..],
             None => {
                 if rng.once_in(3) {
                     return Ok(());
                 }
                 // Refused: go on with another port if this one was wrong.
-                let port = sides.port();
-                if port.len() != 66 || port[0] > 64 || port[1] > 1 || rng.once_in(6) {
+                if sides.port()[0] > 64 || rng.once_in(6) {
                     let port = rooms::port(rng, rest);
                     sides.set_port(&port);
                 }

@@ -5,7 +5,7 @@ mod wish;
 
 use std::panic::{catch_unwind, AssertUnwindSafe};
 
-use crate::compare::{Buffers, Compare, Difference};
+use crate::compare::{Compare, Difference};
 use crate::grammar;
 use crate::report::Report;
 use crate::rng::Rng;
@@ -61,20 +61,14 @@ fn play(rng: &mut Rng, compare: &mut Compare) -> Result<(), Difference> {
     Ok(())
 }
 
-/// The buffers of a call, mostly as they should be.
-fn buffers(rng: &mut Rng) -> Buffers {
-    Buffers {
-        length: match rng.below(30) {
-            0 => 63,
-            1 => 0,
-            2 => rng.below(64),
-            3..6 => 65,
-            6 => 64 + rng.below(200),
-            _ => 64,
-        },
-        told: match rng.below(60) {
-            0 => rng.pick(&[0, 1, 3, 4]),
-            _ => 2,
-        },
+/// The bytes of a reply buffer, mostly as they should be.
+fn room_for_reply(rng: &mut Rng) -> usize {
+    match rng.below(30) {
+        0 => 63,
+        1 => 0,
+        2 => rng.below(64),
+        3..6 => 65,
+        6 => 64 + rng.below(200),
+        _ => 64,
     }
 }

@@ -1,7 +1,6 @@
 //! A wish, its restore list, and the list played.
 
-use super::buffers;
-use crate::compare::{Buffers, Compare, Difference, Sides};
+use crate::compare::{Compare, Difference, Sides, USUAL};
 use crate::rng::Rng;
 use crate::rooms;
 use reference::catalogue::rows;
@@ -15,20 +14,18 @@ pub fn ask(
 ) -> Result<(), Difference> {
     let selection = rooms::selection(rng, room);
     let wanted = rooms::wanted(rng, room, present, &selection);
-    let told = buffers(rng).told;
     let length = match rng.below(6) {
         0 => rng.below(100),
         _ => present.len() * 51 + rng.below(3),
     };
-    let mut ask = |rng: &mut Rng, length: usize, told: usize| {
-        let buffers = Buffers { length, told };
-        compare.restore(rng, &room.table, present, &selection, &wanted, &buffers)
+    let mut ask = |rng: &mut Rng, length: usize| {
+        compare.restore(rng, &room.table, present, &selection, &wanted, length)
     };
-    let Ok((list, count)) = ask(rng, length, told)? else {
+    let Ok((list, count)) = ask(rng, length)? else {
         return Ok(());
     };
     for length in list.len().saturating_sub(2)..list.len() + 3 {
-        let answer = ask(rng, length, 2)?;
+        let answer = ask(rng, length)?;
         let expected = if length < list.len() {
             Err(8)
         } else {
@@ -42,7 +39,7 @@ pub fn ask(
         }
     }
     let short = rng.below(list.len() + 1);
-    let _ = ask(rng, short, 2)?;
+    let _ = ask(rng, short)?;
     // A long list on a large room is played only now and then.
     if count * present.len() > 20_000 && !rng.once_in(20) {
         return Ok(());
@@ -71,7 +68,7 @@ fn play(
     let mut rest = list;
     let mut acks = 0;
     while !rest.is_empty() {
-        let fed = compare.port(rng, table, sides, rest, &Buffers::USUAL)?;
+        let fed = compare.port(rng, table, sides, rest, USUAL)?;
         let Some(fed) = fed else {
             return Err("restore: the port refused the list".to_string());
         };

@@ -55,7 +55,7 @@ struct Side {
 }
 
 impl Sides {
-    pub fn new(values: &[i64], port: &[u8]) -> Sides {
+    pub fn new(values: &[i64], port: &[u8; 66]) -> Sides {
         let side = Side {
             values: Lent::new(values, 77),
             port: Lent::new(port, 0xA5),
@@ -76,7 +76,7 @@ impl Sides {
         self.right.port.view()
     }
 
-    pub fn set_port(&mut self, port: &[u8]) {
+    pub fn set_port(&mut self, port: &[u8; 66]) {
         self.left.port = Lent::new(port, 0xA5);
         self.right.port = Lent::new(port, 0xA5);
     }
@@ -88,21 +88,8 @@ pub struct Fed {
     pub reply: Vec<u8>,
 }
 
-/// Buffers of a call beside the sides.
-pub struct Buffers {
-    /// Bytes of the reply or list buffer.
-    pub length: usize,
-    /// How many numbers are told.
-    pub told: usize,
-}
-
-impl Buffers {
-    /// Those of a port call.
-    pub const USUAL: Buffers = Buffers {
-        length: 64,
-        told: 2,
-    };
-}
+/// Bytes of a usual reply or list buffer.
+pub const USUAL: usize = 64;
 
 fn number(answer: u8) -> &'static str {
     match answer {
@@ -115,7 +102,6 @@ fn number(answer: u8) -> &'static str {
         6 => "6",
         7 => "7",
         8 => "8",
-        255 => "255",
         _ => "unknown",
     }
 }

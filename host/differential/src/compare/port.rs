@@ -1,30 +1,31 @@
 //! The port call.
 
 use super::written::{Output, Written};
-use super::{number, short, Buffers, Compare, Difference, Fed, Side, Sides};
+use super::{number, short, Compare, Difference, Fed, Side, Sides};
 use crate::rng::Rng;
 use cores::Calls;
 
 impl Compare<'_> {
-    /// One port call on both; nothing for a refusal.
+    /// One port call on both, with so many bytes for the reply; nothing for a
+    /// refusal.
     pub fn port(
         &mut self,
         rng: &mut Rng,
         table: &[u8],
         sides: &mut Sides,
         given: &[u8],
-        buffers: &Buffers,
+        room: usize,
     ) -> Result<Option<Fed>, Difference> {
         let old = sides.clone();
-        let mut written = Written::new(rng, buffers);
+        let mut written = Written::new(rng, room);
         let call = |core: &Calls, side: &mut Side, output: &mut Output| {
             (core.port)(
                 table,
                 side.values.lend(),
-                side.port.lend(),
+                side.port.block(),
                 given,
                 output.buffer.lend(),
-                output.told.lend(),
+                output.told.block(),
             )
         };
         let answers = (
@@ -34,13 +35,11 @@ impl Compare<'_> {
         self.tally.count("port", number(answers.1));
         let fed = judge(answers, given, &old, sides, &written).map_err(|what| {
             format!(
-                "port: {what}\n  given {}\n  port {}\n  reply buffer {}, told {}\n  values {}\n  \
+                "port: {what}\n  given {}\n  port {}\n  reply buffer {room}\n  values {}\n  \
                  table {}\n  answers {answers:?}, told {:?} and {:?}\n  replies {} and {}\n  \
                  ports {} and {}",
                 given.escape_ascii(),
                 old.port().escape_ascii(),
-                buffers.length,
-                buffers.told,
                 short(old.values()),
                 table.escape_ascii(),
                 written.left.told.view(),
@@ -75,7 +74,7 @@ fn judge(
         "wrote beside a lent slice"
     );
     if answers.1 != 0 {
-        written.refused(answers.1)?;
+        written.refused()?;
         ensure!(old == new, "a refusal changed something");
         return Ok(None);
     }
@@ -102,7 +101,9 @@ fn judge(
     if end.is_some() {
         ensure!(new.port()[..2] == [0, 0], "not fresh after a line");
     } else if given.is_empty() {
-        ensure!(same_port(old.port(), new.port()), "no bytes changed it");
+        ensure!(old == new, "no bytes changed something");
+    } else {
+        ensure!(new.port()[1] <= 1, "an overrun byte over 1 is stored");
     }
     let reply = &reply[..length];
     let pairs = old.values().iter().zip(new.values());
@@ -119,9 +120,9 @@ fn judge(
 
 /// The paper's rule for ports that count as the same.
 fn same_port(left: &[u8], right: &[u8]) -> bool {
-    match (left[1], right[1]) {
-        (1, 1) => left[0] <= 64 && right[0] <= 64,
-        (0, 0) => {
+    match (left[1] != 0, right[1] != 0) {
+        (true, true) => left[0] <= 64 && right[0] <= 64,
+        (false, false) => {
             let held = usize::from(left[0]);
             held <= 64 && left[0] == right[0] && left[2..2 + held] == right[2..2 + held]
         }

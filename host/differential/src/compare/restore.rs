@@ -1,7 +1,7 @@
 //! The restore call.
 
 use super::written::{Output, Written};
-use super::{number, short, Buffers, Compare, Difference};
+use super::{number, short, Compare, Difference};
 use crate::rng::Rng;
 use cores::Calls;
 
@@ -9,7 +9,7 @@ use cores::Calls;
 type Answer = Result<(Vec<u8>, usize), u8>;
 
 impl Compare<'_> {
-    /// One restore call on both.
+    /// One restore call on both, with so many bytes for the list.
     #[allow(clippy::too_many_arguments)]
     pub fn restore(
         &mut self,
@@ -18,9 +18,9 @@ impl Compare<'_> {
         present: &[i64],
         selection: &[u8],
         wanted: &[i64],
-        buffers: &Buffers,
+        room: usize,
     ) -> Result<Answer, Difference> {
-        let mut written = Written::new(rng, buffers);
+        let mut written = Written::new(rng, room);
         let call = |core: &Calls, output: &mut Output| {
             (core.restore)(
                 table,
@@ -28,7 +28,7 @@ impl Compare<'_> {
                 selection,
                 wanted,
                 output.buffer.lend(),
-                output.told.lend(),
+                output.told.block(),
             )
         };
         let answers = (
@@ -39,13 +39,11 @@ impl Compare<'_> {
         judge(answers, &written).map_err(|what| {
             format!(
                 "restore: {what}\n  selection {}\n  present {}\n  wanted {}\n  \
-                 list buffer {}, told {}\n  table {}\n  answers {answers:?}, \
+                 list buffer {room}\n  table {}\n  answers {answers:?}, \
                  told {:?} and {:?}\n  lists {} and {}",
                 selection.escape_ascii(),
                 short(present),
                 short(wanted),
-                buffers.length,
-                buffers.told,
                 table.escape_ascii(),
                 written.left.told.view(),
                 written.right.told.view(),
@@ -61,7 +59,7 @@ fn judge(answers: (u8, u8), written: &Written) -> Result<Answer, Difference> {
     written.same(answers, "lists")?;
     ensure!(written.guarded(), "wrote beside a lent slice");
     if answers.1 != 0 {
-        written.refused(answers.1)?;
+        written.refused()?;
         return Ok(Err(answers.1));
     }
     let [bytes, lines] = written.counts();

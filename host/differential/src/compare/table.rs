@@ -18,15 +18,11 @@ impl Compare<'_> {
     }
 
     pub fn log(&mut self, rng: &mut Rng, table: &[u8], line: &[u8]) -> Result<(), Difference> {
-        let length = if rng.once_in(40) { rng.below(6) } else { 3 };
-        let told = [rng.next(), 1, 2, 3, 4, 5];
-        let mut left = Lent::new(&told[..length], 99);
+        let mut left = Lent::new(&[rng.next(), rng.next(), rng.next()], 99);
         let mut right = left.clone();
-        let answers = (
-            (self.left.log)(table, line, left.lend()),
-            (self.right.log)(table, line, right.lend()),
-        );
-        self.tally.count("log", &answers.1.to_string());
+        (self.left.log)(table, line, left.block());
+        (self.right.log)(table, line, right.block());
+        self.tally.count("log", &right.view()[0].to_string());
         let inputs = || {
             format!(
                 "\n  line {}\n  table {}",
@@ -35,8 +31,8 @@ impl Compare<'_> {
             )
         };
         ensure!(
-            answers.0 == answers.1 && left.view() == right.view(),
-            "log: answers {answers:?}, told {:?} and {:?}{}",
+            left.view() == right.view(),
+            "log: told {:?} and {:?}{}",
             left.view(),
             right.view(),
             inputs()
@@ -46,19 +42,6 @@ impl Compare<'_> {
             "log: wrote beside told{}",
             inputs()
         );
-        ensure!(
-            (answers.1 == 255) == (length != 3),
-            "log: answers {answers:?} for {length} told{}",
-            inputs()
-        );
-        if answers.1 == 255 {
-            ensure!(
-                right.view() == &told[..length],
-                "log: 255 changed told{}",
-                inputs()
-            );
-            return Ok(());
-        }
         let whole = match right.view()[0] {
             0 => line,
             1 => table,

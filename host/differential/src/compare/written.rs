@@ -1,6 +1,6 @@
 //! What a port or restore call writes beside values and port.
 
-use super::{Buffers, Difference};
+use super::Difference;
 use crate::lent::Lent;
 use crate::rng::Rng;
 
@@ -19,11 +19,11 @@ pub struct Output {
 }
 
 impl Written {
-    pub fn new(rng: &mut Rng, buffers: &Buffers) -> Written {
+    pub fn new(rng: &mut Rng, room: usize) -> Written {
         let filler = rng.byte();
         let output = Output {
-            buffer: Lent::new(&vec![filler; buffers.length], 0x5A),
-            told: Lent::new(&vec![u64::from(filler); buffers.told], 99),
+            buffer: Lent::new(&vec![filler; room], 0x5A),
+            told: Lent::new(&[u64::from(filler); 2], 99),
         };
         Written {
             filler,
@@ -50,15 +50,9 @@ impl Written {
         guarded(&self.left) && guarded(&self.right)
     }
 
-    /// A refusal writes nothing but zeros for the counts, and 255 not even
-    /// these.
-    pub fn refused(&self, answer: u8) -> Result<(), Difference> {
-        let count = if answer == 255 { self.filler } else { 0 };
-        let mut told = self.right.told.view().iter();
-        ensure!(
-            told.all(|&told| told == u64::from(count)),
-            "a refusal's counts"
-        );
+    /// A refusal writes nothing but zeros for the counts.
+    pub fn refused(&self) -> Result<(), Difference> {
+        ensure!(self.counts() == [0, 0], "a refusal's counts");
         ensure!(self.ends_by(0), "a refusal wrote");
         Ok(())
     }
@@ -69,7 +63,7 @@ impl Written {
         rest.is_some_and(|rest| rest.iter().all(|&byte| byte == self.filler))
     }
 
-    /// The two numbers told by an accepted call.
+    /// The two numbers told.
     pub fn counts(&self) -> [usize; 2] {
         let told = self.right.told.view();
         [told[0] as usize, told[1] as usize]

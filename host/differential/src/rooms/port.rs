@@ -2,9 +2,10 @@
 
 use crate::rng::Rng;
 
-/// A lent port: fresh, holding a part of a line, or wrong.
-pub fn port(rng: &mut Rng, line: &[u8]) -> Vec<u8> {
-    let mut port = vec![0; 66];
+/// A lent port: fresh, holding a part of a line, overrun, or with a claim that
+/// is too high.
+pub fn port(rng: &mut Rng, line: &[u8]) -> [u8; 66] {
+    let mut port = [0; 66];
     if rng.once_in(2) {
         return port;
     }
@@ -25,16 +26,10 @@ pub fn port(rng: &mut Rng, line: &[u8]) -> Vec<u8> {
         port[2 + rng.below(held)] = b'\r';
     }
     if rng.once_in(6) {
-        port[1] = 1;
+        port[1] = rng.pick(&[1, 1, 1, 2, 3, 7, 128, 255]);
     }
     if rng.once_in(16) {
         port[0] = rng.pick(&[65, 66, 100, 127, 128, 254, 255]);
-    }
-    if rng.once_in(40) {
-        port[1] = rng.pick(&[2, 3, 128, 255]);
-    }
-    if rng.once_in(40) {
-        port.resize(rng.pick(&[0, 1, 65, 67, 130]), 0);
     }
     port
 }

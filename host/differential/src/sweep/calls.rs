@@ -1,7 +1,7 @@
 //! The four calls: tables, ports, logs, and each value.
 
 use super::{index, line, module, FRESH};
-use crate::compare::{Buffers, Compare, Difference, Sides};
+use crate::compare::{Compare, Difference, Sides, USUAL};
 use crate::rng::Rng;
 use reference::catalogue::rows;
 
@@ -24,7 +24,8 @@ pub fn tables(compare: &mut Compare) -> Result<(), Difference> {
     Ok(())
 }
 
-/// Each claim and overrun byte, with pieces around the limit.
+/// Each claim with some overrun bytes, and pieces around the limit; then each
+/// overrun byte, and each room for a reply.
 pub fn ports(compare: &mut Compare) -> Result<(), Difference> {
     let (table, values) = module(2, b"S");
     let rng = &mut Rng::new(2, 2);
@@ -32,7 +33,7 @@ pub fn ports(compare: &mut Compare) -> Result<(), Difference> {
     line.resize(64, b' ');
     let long = [line.clone(), b"xx\rGA".to_vec()].concat();
     for claim in 0..=255 {
-        for overrun in 0..3 {
+        for overrun in [0, 1, 2, 255] {
             let mut port = FRESH;
             port[0] = claim;
             port[1] = overrun;
@@ -41,19 +42,24 @@ pub fn ports(compare: &mut Compare) -> Result<(), Difference> {
             let ends = (0..=long.len()).map(|start| &long[start..]);
             for given in cuts.chain(ends) {
                 let mut sides = Sides::new(&values, &port);
-                compare.port(rng, &table, &mut sides, given, &Buffers::USUAL)?;
+                compare.port(rng, &table, &mut sides, given, USUAL)?;
                 // What a line means after it shows what the port has kept.
                 let next = b"GA\"S\">1\r";
-                compare.port(rng, &table, &mut sides, next, &Buffers::USUAL)?;
+                compare.port(rng, &table, &mut sides, next, USUAL)?;
             }
         }
     }
-    for length in 0..140 {
-        for told in 0..5 {
-            let mut sides = Sides::new(&values, &FRESH);
-            let buffers = Buffers { length, told };
-            compare.port(rng, &table, &mut sides, b"GA\"S\">1\r", &buffers)?;
+    for overrun in 0..=255 {
+        for given in [&b""[..], b"x", b"\r", b"xx\rx"] {
+            let mut port = FRESH;
+            port[1] = overrun;
+            let mut sides = Sides::new(&values, &port);
+            compare.port(rng, &table, &mut sides, given, USUAL)?;
         }
+    }
+    for room in 0..140 {
+        let mut sides = Sides::new(&values, &FRESH);
+        compare.port(rng, &table, &mut sides, b"GA\"S\">1\r", room)?;
     }
     Ok(())
 }
@@ -89,8 +95,8 @@ pub fn values(compare: &mut Compare) -> Result<(), Difference> {
             for value in row.low - 12..=row.high + 12 {
                 room.1[place] = value;
                 line(compare, &room, get.as_bytes())?;
-                let _ = compare.restore(rng, &table, &start, &[1], &room.1, &Buffers::USUAL)?;
-                let _ = compare.restore(rng, &table, &room.1, &[1], &start, &Buffers::USUAL)?;
+                let _ = compare.restore(rng, &table, &start, &[1], &room.1, USUAL)?;
+                let _ = compare.restore(rng, &table, &room.1, &[1], &start, USUAL)?;
             }
         }
     }

@@ -5,7 +5,7 @@ mod lines;
 
 use std::panic::{catch_unwind, AssertUnwindSafe};
 
-use crate::compare::{Buffers, Compare, Difference, Sides};
+use crate::compare::{Compare, Difference, Sides, USUAL};
 use crate::report::Report;
 use crate::rng::Rng;
 use cores::Calls;
@@ -51,6 +51,6 @@ fn line(compare: &mut Compare, room: &(Vec<u8>, Vec<i64>), line: &[u8]) -> Resul
     let mut sides = Sides::new(&room.1, &FRESH);
     let given = [line, b"\r"].concat();
     let rng = &mut Rng::new(1, 1);
-    compare.port(rng, &room.0, &mut sides, &given, &Buffers::USUAL)?;
+    compare.port(rng, &room.0, &mut sides, &given, USUAL)?;
     Ok(())
 }

@@ -119,8 +119,7 @@ impl Room {
     /// ```
     pub fn log<'a>(&'a self, line: &'a [u8]) -> &'a [u8] {
         let mut told = [0; 3];
-        let answer = calls::log(&self.table, line, &mut told);
-        assert_eq!(answer, 0, "the log call has no refusal");
+        calls::log(&self.table, line, &mut told);
         let [in_table, start, length] = told.map(|number| number as usize);
         let whole = if in_table == 1 { &self.table } else { line };
         &whole[start..start + length]

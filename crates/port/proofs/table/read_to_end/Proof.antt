@@ -2,7 +2,7 @@
 use Prim.Native.Nat.{_-_}
 use borrow.Author.Needs.{needs}
 use lib.ListN.{length}
-use Rattle.port.specs.Reading.{Reading, reading}
+use Rattle.port.specs.Table.Reading.{Reading, reading}
 use Rattle.port.proofs.table.read_to_end.Statement.{statement}
 use Rattle.port.proofs.table.read_to_end.Tie as tie
 

@@ -2,7 +2,7 @@
 use mathlib.Core.Path.{_≡_, sym, ap}
 use mathlib.Core.Bool.{true}
 use mathlib.Core.List.{List}
-use Prim.Native.Nat.{ℕ, _≤_}
+use Prim.Native.Nat.{ℕ, _*_, _≤_}
 use native.Mathlib.Omega.{arith}
 use lib.IntN.{ℤ}
 use lib.ListN.{length, take, drop, length-append}
@@ -11,6 +11,7 @@ use Rattle.room.specs.Table.{sound}
 use Rattle.values.specs.Values.{valuesSound}
 use Rattle.values.specs.Starts.{Started, starts}
 use Rattle.values.specs.Starts.Right.{starts-few, starts-right}
+use Rattle.serial_port.specs.declared.port.Port.{Port}
 use Rattle.text.specs.Cut.Part.{part-counts}
 use Rattle.text.specs.Every.Laws.{test-held}
 
@@ -27,4 +28,12 @@ module _ (t : List ℕ) (before : List ℤ) (n : ℕ) (after : List ℤ) (s : St
   pub started-right : valuesSound t (take n after) ≡ true
   started-right = rw (s .list, take-at (starts t) (drop (length (starts t)) before) n (sym (s .count))) (starts-right t)
 
-pub ruleset start-rules = (starts-room, started-within, part-counts, started-right)
+-- a fresh port claims few bytes
+pub fresh-few : (p : Port) → p .len ≡ 0 → p .len ≤ 64
+fresh-few p e = omega arith
+
+-- for each byte of a read there is room for a reply
+pub replies-fit : (input out : List ℕ) → 1024 ≡ length input → 65536 ≡ length out → 64 * length input ≤ length out
+replies-fit input out i o = omega arith
+
+pub ruleset start-rules = (starts-room, started-within, part-counts, started-right, fresh-few, replies-fit)

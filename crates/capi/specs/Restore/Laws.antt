@@ -1,0 +1,15 @@
+-- A law of the restore call for C.
+use mathlib.Core.Path.{_≡_, refl}
+use mathlib.Core.List.{List, [], _∷_}
+use Prim.Native.Nat.{ℕ, suc}
+use lib.ListN.{length}
+use Rattle.wish.specs.Target.{Wish}
+use Rattle.wish.specs.Listing.{restoreNumber}
+use Rattle.wish.specs.Listing.Telling.{refused-told}
+use Rattle.capi.specs.Restore.{counted, restoreAnswer, restoreTells}
+
+-- a refusal counts zero, and leaves the list buffer as it was
+pub answer-refused : (w : Wish) (list : List ℕ) (n : ℕ) → restoreNumber w (length list) ≡ suc n
+    → restoreAnswer w list ≡ restoreTells (suc n) (0 ∷ 0 ∷ []) list
+unfolding restoreAnswer counted
+answer-refused w list n e = rw (refused-told w list n e) refl

@@ -1,0 +1,15 @@
+-- What the restore call told, field by field.
+use mathlib.Core.Path.{_≡_, ap}
+use mathlib.Core.List.{List}
+use Prim.Native.Nat.{ℕ}
+use Rattle.wish.specs.Target.{Wish}
+use Rattle.wish.specs.Listing.{Told, restore}
+use Rattle.restore.specs.Demand.{tells, Restores}
+use Rattle.restore.specs.Demand.Laws.{told-by}
+use Rattle.restore.specs.declared.Restored.{Restored}
+
+-- a field of what it told, or whatever else is made of that
+pub told-field : {w : Wish} {buffer : List ℕ} {r : Restored} {buffer′ : List ℕ} → Restores w buffer r buffer′ → {A : Type 0} (f : Told → A)
+    → f (record { number = r .number; bytes = r .bytes; lines = r .lines; buffer = buffer′ }) ≡ f (restore w buffer)
+unfolding tells
+told-field h f = ap f (told-by h)
