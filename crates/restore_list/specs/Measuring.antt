@@ -1,17 +1,15 @@
 -- Measuring the restore list: its bytes and lines, or that a wanted change is beyond reach.
 pub mod Label
-pub mod Laws
 pub mod OneModule
 pub mod Part
 pub mod RowWalk
 pub mod Rows
-pub mod Short
 pub mod Told
 pub mod Walk
 pub mod Whole
 use mathlib.Core.Path.{_≡_}
-use mathlib.Core.Bool.{Bool, true, cond, _&&_}
-use mathlib.Core.List.{List, [], _∷_}
+use mathlib.Core.Bool.{Bool, true, cond}
+use mathlib.Core.List.{List, []}
 use Prim.Native.Nat.{ℕ, _+_, _≤_, _<_}
 use lib.Dec.{eqb, leb}
 use lib.IntN.{ℤ}
@@ -20,7 +18,8 @@ use Rattle.catalogue.specs.Catalogue.{known, rowsOf}
 use Rattle.values.specs.Parameters.{parametersOf}
 use Rattle.room.specs.Table.{sound}
 use Rattle.room.specs.declared.table.Module.{Module}
-use Rattle.wish.specs.Listing.{Change, changesOf, listing, allReachable}
+use Rattle.wish.specs.Listing.{Change, allReachable, changesOf, listNumber, listing}
+use Rattle.wish.specs.Listing.Settable.{allSettable}
 use Rattle.restore_list.specs.declared.module_measuring.Measured.{Measured}
 use Rattle.restore_list.specs.declared.module_measuring.Measured.the-variants.{Within, Beyond}
 
@@ -45,11 +44,6 @@ pub record Standing (t : List ℕ) (present : List ℤ) (selection : List ℕ) (
   pub values : m .first + length (rowsOf (m .kind)) ≤ length present
   pub wishes : m .first + length (rowsOf (m .kind)) ≤ length wanted
 
--- no change is of a read-only row
-unfoldable pub allSettable : List Change → Bool
-allSettable [] = true
-allSettable (c ∷ cs) = c .parameter .row .settable && allSettable cs
-
 -- the bytes and lines of some changes, if they can be listed
 unfoldable pub measuredIf : Bool → (table : List ℕ) → List Change → Measured
 measuredIf listed t cs = cond listed (Within (length (listing t cs)) (length cs)) Beyond
@@ -72,7 +66,13 @@ pub record Settles (t : List ℕ) (cs : List Change) (r : Measured) : Type 0 whe
   pub is : r ≡ measuredIf (allSettable cs) t cs
   pub few : Few r
 
--- what measuring a module answers
+-- what measuring some changes answers: their bytes and lines, or that one is beyond reach; and with any room for the list, the number of
+-- the case is the one that the restore call has for these changes
 pub record Measures (t : List ℕ) (cs : List Change) (r : Measured) : Type 0 where
   pub is : r ≡ measured t cs
+  pub numbers : (room : ℕ) → measuredNumber r room ≡ listNumber t room cs
+
+-- what measuring a module answers
+pub record MeasuresModule (t : List ℕ) (cs : List Change) (r : Measured) : Type 0 where
+  pub measures : Measures t cs r
   pub few : Few r

@@ -12,7 +12,7 @@ ghost use lib.ListN.{length};
 ghost use Rattle.catalogue.specs.Catalogue.{numbers};
 ghost use Rattle.room.specs.Label.{label};
 ghost use Rattle.wish.specs.Listing.{Admitted, changes};
-ghost use Rattle.restore_list.specs.Measuring.{Measures, Settles, Standing, measured, moduleChanges, rowChanges, valuesOf};
+ghost use Rattle.restore_list.specs.Measuring.{Measures, MeasuresModule, Settles, Standing, moduleChanges, rowChanges, valuesOf};
 
 // The changes of a module's rows, of the parts of the lists that are its own.
 fn module_lines(
@@ -50,7 +50,7 @@ fn measure_module(
     wanted: &[i64],
 ) -> Measured
     requires { ⌜ (now rows ≡ numbers) × Standing (now table) (now present) (now selection) (now wanted) m ⌝ }
-    ensures { λ r. ⌜ Measures (now (table .entry)) (moduleChanges (now (selection .entry)) m (now (present .entry)) (now (wanted .entry))) r ⌝ }
+    ensures { λ r. ⌜ MeasuresModule (now (table .entry)) (moduleChanges (now (selection .entry)) m (now (present .entry)) (now (wanted .entry))) r ⌝ }
 {
     let number = m.number;
     if selection[number] != 1 {
@@ -80,7 +80,7 @@ pub fn measure(
     wanted: &[i64],
 ) -> Measured
     requires { ⌜ (now rows ≡ numbers) × Admitted (record { table = now table; present = now present; selection = now selection; wanted = now wanted }) ⌝ }
-    ensures { λ r. ⌜ r ≡ measured (now (table .entry)) (changes (record { table = now (table .entry); present = now (present .entry); selection = now (selection .entry); wanted = now (wanted .entry) })) ⌝ }
+    ensures { λ r. ⌜ Measures (now (table .entry)) (changes (record { table = now (table .entry); present = now (present .entry); selection = now (selection .entry); wanted = now (wanted .entry) })) r ⌝ }
 {
     let mut number = 0;
     let mut place = 0;

@@ -1,4 +1,5 @@
 -- Playing a byte sequence: port calls, each with all bytes not yet consumed, until every byte is consumed.
+pub mod Acknowledged
 pub mod Calls
 pub mod Feed
 pub mod Kept

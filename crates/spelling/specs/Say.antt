@@ -1,5 +1,6 @@
 -- The set line of the restore list: without a space or leading zeros, a switch as `O` or `F`, a level in its shortest text.
 pub mod Laws
+pub mod Length
 pub mod Writing
 use mathlib.Core.List.{List, _∷_, _++_}
 use Prim.Native.Nat.{ℕ}

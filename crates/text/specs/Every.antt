@@ -1,5 +1,6 @@
 -- A test that each element of a list passes, and one that each pair passes: computed over the whole list at once.
 pub mod Laws
+pub mod Steps
 use mathlib.Core.Bool.{Bool, true, _&&_}
 use mathlib.Core.List.{List, [], _∷_}
 

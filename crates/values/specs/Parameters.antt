@@ -1,8 +1,10 @@
 -- Parameters: the rows of each module in turn, in the order of the table.
 pub mod Each
+pub mod Elements
 pub mod First
 pub mod Laws
 pub mod Named
+pub mod Owned
 pub mod Places
 pub mod Seeking
 pub mod Walk

@@ -3,6 +3,7 @@ pub mod Each
 pub mod Few
 pub mod Fitting
 pub mod Laws
+pub mod Tested
 use mathlib.Core.Bool.{Bool, true, false, _&&_}
 use mathlib.Core.List.{List, [], _∷_}
 use Prim.Native.Nat.{ℕ}

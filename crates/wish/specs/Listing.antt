@@ -2,8 +2,14 @@
 pub mod Admitting
 pub mod Beyond
 pub mod Counted
+pub mod Differing
+pub mod Laws
 pub mod Numbers
+pub mod Reach
+pub mod Rows
+pub mod Settable
 pub mod Telling
+pub mod Wanted
 use mathlib.Core.Bool.{Bool, true, false, cond, _&&_}
 use mathlib.Core.Path.{_≡_}
 use mathlib.Core.List.{List, [], _∷_, _++_}

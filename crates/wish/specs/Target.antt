@@ -1,4 +1,5 @@
 -- The wish: a selection byte for each module, wanted values, and the values that every parameter is to have.
+pub mod Choice
 pub mod Laws
 pub mod Selecting
 pub mod Wanting

@@ -2,6 +2,7 @@
 use mathlib.Core.Path.{_≡_, refl}
 use mathlib.Core.List.{List, [], _∷_}
 use Prim.Native.Nat.{ℕ, suc}
+use native.Mathlib.Omega.{arith}
 use lib.ListN.{length}
 use Rattle.wish.specs.Target.{Wish}
 use Rattle.wish.specs.Listing.{restoreNumber}
@@ -12,4 +13,4 @@ use Rattle.capi.specs.Restore.{counted, restoreAnswer, restoreTells}
 pub answer-refused : (w : Wish) (list : List ℕ) (n : ℕ) → restoreNumber w (length list) ≡ suc n
     → restoreAnswer w list ≡ restoreTells (suc n) (0 ∷ 0 ∷ []) list
 unfolding restoreAnswer counted
-answer-refused w list n e = rw (refused-told w list n e) refl
+answer-refused w list n e = rw (refused-told w list (suc n) e (λ z. omega arith)) refl

@@ -7,10 +7,11 @@ use native.Mathlib.Omega.{arith}
 use borrow.Author.Tests.{eqb-true, leb-true, ltb-true}
 use lib.Dec.{eqb, ltb}
 use lib.IntN.{ℤ, pos, negsuc, natAbs, _-ℤ_}
+use lib.ListN.{length}
 use lib.Signed.{leZ}
-use Rattle.text.specs.Every.Laws.{both-left, both-right, never}
+use Rattle.text.specs.Every.Laws.{both-left, both-right, every-at, never}
 use Rattle.text.specs.Every.{every}
-use Rattle.catalogue.specs.Catalogue.{catalogue, level as level′, minus, number as number′, rowsOf, switch as switch′}
+use Rattle.catalogue.specs.Catalogue.{catalogue, level as level′, minus, noRow, number as number′, rowOf, rowsOf, switch as switch′}
 use Rattle.catalogue.specs.Catalogue.Each.{entryTest, type-tested}
 use Rattle.catalogue.specs.Row.{permitted}
 use Rattle.catalogue.specs.declared.row.Indices.{Indices}
@@ -76,6 +77,11 @@ sized Number (pos low) (pos x) (pos high) b p q = number x (omega (arith, ltb-tr
 sized Number (pos low) (negsuc x) (pos high) b p q = never p
 sized Number (pos low) x (negsuc high) b p q = never b
 sized Number (negsuc low) x high b p q = never b
+
+-- row j of a type
+pub row-sized : (kind j : ℕ) → j < length (rowsOf kind) → sizedRow (rowOf kind j) ≡ true
+unfolding rowOf
+row-sized kind j l = every-at sizedRow (rowsOf kind) noRow (type-sized kind) j l
 
 pub permitted-sized : (r : Row) (x : ℤ) → sizedRow r ≡ true → permitted r x ≡ true → Sized (r .kind) x
 unfolding sizedRow permitted

@@ -1,21 +1,18 @@
 -- How the restore call answers: a rule for each return and each call.
-use mathlib.Core.Path.{_≡_, refl, sym, ap, _∙_}
+use mathlib.Core.Path.{_≡_, sym, _∙_}
 use mathlib.Core.Bool.{true}
 use mathlib.Core.List.{List}
 use Prim.Native.Nat.{ℕ, _≤_, _<_}
 use native.Mathlib.Omega.{arith}
-use borrow.Author.Tests.{le-leb, lt-leb}
 use lib.IntN.{ℤ}
 use lib.ListN.{length}
 use Rattle.text.specs.Written.{Wrote}
 use Rattle.wish.specs.Listing.{Admitted, allReachable, changes, listing, restoreNumber, testNumber}
-use Rattle.wish.specs.Listing.Numbers.{number-list}
+use Rattle.wish.specs.Listing.Numbers.{number-list, number-test, test-admits}
 use Rattle.restore.specs.Demand.{Restores}
-use Rattle.wish.specs.Listing.Numbers.{test-admits}
-use Rattle.restore.specs.Demand.Testing.{test-refuses}
 use Rattle.restore.specs.Demand.Rules.{returns-listed, returns-refused}
-use Rattle.restore_list.specs.Measuring.{measured, measuredNumber}
-use Rattle.restore_list.specs.Measuring.Told.{number-told, within-told}
+use Rattle.restore_list.specs.Measuring.{Measures, measuredNumber}
+use Rattle.restore_list.specs.Measuring.Told.{number-beyond, number-fits, number-long, within-told}
 use Rattle.restore_list.specs.Measuring.Walk.{wishOf}
 use Rattle.restore_list.specs.declared.module_measuring.Measured.{Measured}
 use Rattle.restore_list.specs.declared.module_measuring.Measured.the-variants.{Within, Beyond}
@@ -29,38 +26,34 @@ module _ (t : List ℕ) (vs : List ℤ) (selection : List ℕ) (ws : List ℤ) (
 
   -- ---- a list that the wish admits
 
-  module _ (a : Admitted (wishOf t vs selection ws)) (f : Measured) (g : f ≡ measured t (changes (wishOf t vs selection ws))) where
+  module _ (a : Admitted (wishOf t vs selection ws)) (f : Measured) (g : Measures t (changes (wishOf t vs selection ws)) f) where
     listed : restoreNumber (wishOf t vs selection ws) (length buffer) ≡ measuredNumber f (length buffer)
-    listed =
-        number-list (wishOf t vs selection ws) (length buffer) a
-        ∙ number-told t (changes (wishOf t vs selection ws)) (length buffer) ∙ ap (λ m. measuredNumber m (length buffer)) (sym g)
+    listed = number-list (wishOf t vs selection ws) (length buffer) a ∙ sym (g .numbers (length buffer))
 
     pub refuses-reach : (r : Restored) → f ≡ Beyond → r ≡ record { bytes = 0; lines = 0; number = 7 } → Restores (wishOf t vs selection ws) buffer r buffer
-    unfolding measuredNumber
-    refuses-reach r e k = refuses r 7 k (listed ∙ rw e refl) (λ z. omega arith)
+    refuses-reach r e k = refuses r 7 k (listed ∙ rw e (number-beyond (length buffer))) (λ z. omega arith)
 
     module _ (bytes lines : ℕ) (e : f ≡ Within bytes lines) where
       told : (allReachable t (changes (wishOf t vs selection ws)) ≡ true) × (bytes ≡ length (listing t (changes (wishOf t vs selection ws)))) × (lines ≡ length (changes (wishOf t vs selection ws)))
-      told = within-told t (changes (wishOf t vs selection ws)) bytes lines (sym e ∙ g)
+      told = within-told t (changes (wishOf t vs selection ws)) bytes lines (sym e ∙ g .is)
 
       pub refuses-room : (r : Restored) → length buffer < bytes → r ≡ record { bytes = 0; lines = 0; number = 8 } → Restores (wishOf t vs selection ws) buffer r buffer
-      unfolding measuredNumber
-      refuses-room r h k = refuses r 8 k (listed ∙ rw (e, lt-leb bytes (length buffer) h) refl) (λ z. omega arith)
+      refuses-room r h k = refuses r 8 k (listed ∙ rw e (number-long bytes lines (length buffer) h)) (λ z. omega arith)
 
       pub list-room : bytes ≤ length buffer → length (listing t (changes (wishOf t vs selection ws))) ≤ length buffer
       list-room h = omega (arith, told .1)
 
       pub returns-list : (n : ℕ) (after : List ℕ) → bytes ≤ length buffer → Wrote buffer 0 (listing t (changes (wishOf t vs selection ws))) n after
           → Restores (wishOf t vs selection ws) buffer (record { bytes = bytes; lines = lines; number = 0 }) after
-      unfolding measuredNumber
       returns-list n after h w =
-          returns-listed (wishOf t vs selection ws) buffer bytes lines after (listed ∙ rw (e, le-leb bytes (length buffer) h) refl) (told .1) (told .2) (bytes-by w)
+          returns-listed (wishOf t vs selection ws) buffer bytes lines after (listed ∙ rw e (number-fits bytes lines (length buffer) h))
+          (told .1) (told .2) (bytes-by w)
 
   -- ---- a wish that it does not admit
 
   module _ (n : ℕ) (e : n ≡ testNumber (wishOf t vs selection ws)) where
     pub refuses-test : (r : Restored) → (n ≡ 0 → ⊥) → r ≡ record { bytes = 0; lines = 0; number = n } → Restores (wishOf t vs selection ws) buffer r buffer
-    refuses-test r h k = refuses r n k (test-refuses (wishOf t vs selection ws) (length buffer) (λ z. h (e ∙ z)) ∙ sym e) h
+    refuses-test r h k = refuses r n k (number-test (wishOf t vs selection ws) (length buffer) (λ z. h (e ∙ z)) ∙ sym e) h
 
 -- every test was passed
 pub admits : (t : List ℕ) (vs : List ℤ) (selection : List ℕ) (ws : List ℤ) (n : ℕ) → n ≡ testNumber (wishOf t vs selection ws) → n ≡ 0

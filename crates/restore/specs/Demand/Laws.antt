@@ -1,7 +1,7 @@
 -- Demand 3 holds. The list fulfils the wish, as each of its lines sets its parameter; and no sequence that does is shorter, as no line
 -- lowers the price of what is left by more than its bytes. A parameter beyond reach stays as it is, whatever is played.
 use mathlib.Core.Path.{_≡_, refl, sym, _∙_, ap}
-use mathlib.Core.Bool.{Bool, true, false, cond}
+use mathlib.Core.Bool.{Bool, true, false}
 use mathlib.Core.List.{List}
 use Prim.Native.Nat.{ℕ, _≤_}
 use native.Mathlib.Omega.{arith}
@@ -9,6 +9,7 @@ use borrow.Author.Tests.{leb-true, leb-false}
 use lib.Dec.{leb}
 use lib.IntN.{pos}
 use lib.ListN.{length, getD}
+use lib.Seq.{sets}
 use Rattle.values.specs.Parameters.{parameters}
 use Rattle.line.specs.Answer.{answer}
 use Rattle.serial_port.specs.Port.{fresh}
@@ -16,6 +17,7 @@ use Rattle.serial_port.specs.Port.Laws.{fresh-few}
 use Rattle.serial_port.specs.Refusal.{replyLimit}
 use Rattle.serial_port.specs.Call.Laws.{written-first}
 use Rattle.serial_port.specs.Play.{play, feed}
+use Rattle.serial_port.specs.Play.Acknowledged.{acknowledged}
 use Rattle.serial_port.specs.Play.Kept.{feed-keeps, bound}
 use Rattle.serial_port.specs.Play.Laws.{Right, keeps-right, plays}
 use Rattle.wish.specs.Target.{Wish, target}
@@ -24,14 +26,16 @@ use Rattle.restore.specs.Demand.Lines.{Lines}
 use Rattle.restore.specs.Demand.Lines.Promise.{promise}
 use Rattle.restore.specs.Demand.Lines.Reach.{Stays, keeps-unreachable}
 use Rattle.restore.specs.Demand.Lines.Price.{potential, lowers, price-reached, price-listing}
-use Rattle.wish.specs.Listing.{Admitted, changes, listing, allReachable, listNumber, tell, restore}
-use Rattle.wish.specs.Listing.Beyond.{beyond}
-use Rattle.wish.specs.Listing.Numbers.{number-list}
+use Rattle.wish.specs.Listing.{Admitted, changes, listing, allReachable, listNumber, restore, restoreNumber}
+use Rattle.wish.specs.Listing.Beyond.{wish-beyond}
 use Rattle.wish.specs.Listing.Counted.{lines-differing}
-use Rattle.restore.specs.Demand.Played.{AllSayable, all-sayable, from-start, done, listing-bytes, play-listing}
+use Rattle.wish.specs.Listing.Differing.{made-target, wish-differ}
+use Rattle.wish.specs.Listing.Numbers.{list-fits, list-long, list-unreachable, number-list}
+use Rattle.wish.specs.Listing.Reach.{all-sayable}
+use Rattle.wish.specs.Listing.Telling.{listed-told, refused-told}
+use Rattle.restore.specs.Demand.Played.{listing-bytes, play-listing}
 use Rattle.restore.specs.Demand.{Fulfils, Shortest, Listed, Demanded, accepted, unreachable, no-room, DemandThree, tells, Restores, restores}
 use Rattle.restore.specs.declared.Restored.{Restored}
-use Rattle.values.specs.Values.Laws.{values-many, values-each}
 
 -- the list of a wish
 unfoldable pub list : Wish → List ℕ
@@ -50,49 +54,38 @@ module _ (w : Wish) (lines : Lines (w .table)) (admitted : Admitted w) (replyRoo
   ends-at bs f = ap (λ p. p .values) (sym (played bs)) ∙ f .reached
 
   least : (bs : List ℕ) → Fulfils w replyRooms bs → length (list w) ≤ length bs
-  unfolding list changes
+  unfolding list
   least bs f =
       let t = w .table in
       let kept = keeps-right t (admitted .table) in
       let b = bound (answer t) (Right t) kept (potential t (target w)) (lowers t lines (target w)) (w .present) bs (admitted .present) in
       let e : potential t (target w) (feed (answer t) fresh (w .present) bs .values) ≡ 0 = rw (ends-at bs f) (price-reached t (parameters t) (target w)) in
-      omega (arith, b, e, price-listing t (parameters t) (w .present) (target w))
+      omega (arith, b, e, price-listing t (wish-differ w admitted))
 
   -- ---- where no change is beyond reach, the list fulfils the wish
 
-  sayable : allReachable (w .table) (changes w) ≡ true → AllSayable (w .table) (changes w)
-  unfolding changes
-  sayable r =
-      let t = w .table in
-      all-sayable t lines 0 (parameters t) (w .present) (target w) (from-start t) (values-each t (target w) target-is-right) r
-
-  listed : allReachable (w .table) (changes w) ≡ true → play (w .table) replyRooms (w .present) (list w) ≡ done (length (changes w)) (target w)
-  unfolding list changes
+  listed : allReachable (w .table) (changes w) ≡ true → play (w .table) replyRooms (w .present) (list w) ≡ acknowledged (length (changes w)) (target w)
+  unfolding list
   listed r =
-      let t = w .table in
       played (list w)
-      ∙ play-listing t lines (w .present) (target w) (values-many t (w .present) (admitted .present)) (values-many t (target w) target-is-right) (sayable r)
+      ∙ play-listing (w .table) lines (changes w) (w .present) (all-sayable w admitted r)
+      ∙ ap (acknowledged (length (changes w))) (made-target w admitted)
 
   shortest : allReachable (w .table) (changes w) ≡ true → Shortest w replyRooms (list w)
   unfolding list
   shortest r =
       record {
-        bytes = listing-bytes (w .table) lines (changes w) (sayable r);
-        fulfils =
-            record {
-              served = ap (λ p. p .refused) (listed r) ∙ unfold done in refl;
-              reached = ap (λ p. p .values) (listed r) ∙ unfold done in refl;
-            };
+        bytes = listing-bytes (w .table) lines (changes w) (all-sayable w admitted r);
+        fulfils = record { served = ap (λ p. p .refused) (listed r); reached = ap (λ p. p .values) (listed r) };
         least = least;
       }
 
   -- ---- where one is, no byte sequence does: its value stays as it is
 
   none : allReachable (w .table) (changes w) ≡ false → (bs : List ℕ) → Fulfils w replyRooms bs → ⊥
-  unfolding changes
   none r bs f =
       let t = w .table in
-      let b = beyond t (parameters t) (w .present) (target w) r in
+      let b = wish-beyond w r in
       let v = getD (w .present) (b .number) (pos 0) in
       let kept = keeps-unreachable t lines (b .number) (b .parameter) v (b .found) (b .blocked) in
       let stays = feed-keeps (answer t) (Stays (b .number) v) kept fresh (w .present) bs fresh-few refl in
@@ -101,29 +94,37 @@ module _ (w : Wish) (lines : Lines (w .table)) (admitted : Admitted w) (replyRoo
   -- ---- the answer
 
   lists : (buffer : List ℕ) → length (list w) ≤ length buffer → allReachable (w .table) (changes w) ≡ true
-      → Listed w replyRooms (length buffer) (tell (w .table) 0 buffer (changes w))
-  unfolding tell list changes
+      → Listed w replyRooms (length buffer) (record { number = 0; bytes = length (list w); lines = length (changes w); buffer = sets buffer 0 (list w) })
   lists buffer h r =
       record {
         shortest = rw (written-first buffer (list w) h) (shortest r);
         bytes = rw (written-first buffer (list w) h) refl;
         fits = h;
-        acknowledged = rw (written-first buffer (list w) h) (ap (λ p. p .replies) (listed r) ∙ unfold done in refl);
-        ends = rw (written-first buffer (list w) h) (ap (λ p. p .port) (listed r) ∙ unfold done in refl);
-        lines = unfold target in lines-differing (w .selection) (parameters (w .table)) (w .present) (w .wanted);
+        acknowledged = rw (written-first buffer (list w) h) (ap (λ p. p .replies) (listed r));
+        ends = rw (written-first buffer (list w) h) (ap (λ p. p .port) (listed r));
+        lines = lines-differing w;
       }
 
   pub demanded : (buffer : List ℕ) → Demanded w replyRooms (length buffer) (restore w buffer)
-  unfolding restore listNumber list
-  demanded buffer =
-      rw (number-list w (length buffer) admitted)
-      (go (allReachable (w .table) (changes w)) (leb (length (list w)) (length buffer)) refl refl)
+  unfolding list
+  demanded buffer = go (allReachable (w .table) (changes w)) (leb (length (list w)) (length buffer)) refl refl
     where
+      number : (n : ℕ) → listNumber (w .table) (length buffer) (changes w) ≡ n → restoreNumber w (length buffer) ≡ n
+      number n e = number-list w (length buffer) admitted ∙ e
+
+      refuses : (n : ℕ) → listNumber (w .table) (length buffer) (changes w) ≡ n → (n ≡ 0 → ⊥)
+          → restore w buffer ≡ record { number = n; bytes = 0; lines = 0; buffer = buffer }
+      refuses n e h = refused-told w buffer n (number n e) h
+
       go : (r n : Bool) → allReachable (w .table) (changes w) ≡ r → leb (length (list w)) (length buffer) ≡ n
-          → Demanded w replyRooms (length buffer) (tell (w .table) (cond r (cond n 0 8) 7) buffer (changes w))
-      go false n r e = unreachable (unfold tell in refl) (none r)
-      go true false r e = no-room (unfold tell in refl) (list w) (shortest r) (leb-false (length (list w)) (length buffer) e)
-      go true true r e = accepted (unfold tell in refl) (lists buffer (leb-true (length (list w)) (length buffer) e) r)
+          → Demanded w replyRooms (length buffer) (restore w buffer)
+      go false n r e = rw (refuses 7 (list-unreachable (w .table) (length buffer) (changes w) r) (λ z. omega arith)) (unreachable refl (none r))
+      go true false r e =
+          let h = leb-false (length (list w)) (length buffer) e in
+          rw (refuses 8 (list-long (w .table) (length buffer) (changes w) r h) (λ z. omega arith)) (no-room refl (list w) (shortest r) h)
+      go true true r e =
+          let h = leb-true (length (list w)) (length buffer) e in
+          rw (listed-told w buffer (number 0 (list-fits (w .table) (length buffer) (changes w) r h))) (accepted refl (lists buffer h r))
 
 -- the whole of it, over the promise that the line layer keeps
 pub demand-three : (w : Wish) (buffer : List ℕ) → DemandThree w (length buffer) (restore w buffer)

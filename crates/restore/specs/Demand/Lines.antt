@@ -12,9 +12,8 @@ use Rattle.text.specs.Byte.{isByte}
 use Rattle.text.specs.Cut.{has}
 use Rattle.text.specs.Every.{every}
 use Rattle.catalogue.specs.Row.{permitted}
-use Rattle.values.specs.Parameters.{parameters, place, parameterAt}
+use Rattle.values.specs.Parameters.{place}
 use Rattle.values.specs.declared.parameter.Parameter.{Parameter}
-use Rattle.values.specs.declared.parameter.ParameterFound.the-variants.{At}
 use Rattle.syntax.specs.Shape.{lineLimit}
 use Rattle.spelling.specs.Acknowledgement.{ack}
 use Rattle.line.specs.Answer.{answer}
@@ -40,8 +39,7 @@ pub record Said (t : List ℕ) (p : Parameter) (x : ℤ) (l : List ℕ) : Type 0
   pub fits : length l ≤ lineLimit
   pub answered : (vs : List ℤ) → answer t vs l ≡ record { reply = ack; values = set vs (place p) x }
 
--- each parameter stands at its place, each line has an effect as above, and set lines do as `Said` says
+-- each line has an effect as above, and set lines do as `Said` says
 pub record Lines (t : List ℕ) : Type 0 where
-  pub placed : (k : ℕ) (p : Parameter) → parameterAt (parameters t) k ≡ At p → place p ≡ k
   pub effect : (vs : List ℤ) (l : List ℕ) → Effect t vs l
   pub says : (p : Parameter) (v x : ℤ) → Settable t p → permitted (p .row) x ≡ true → Said t p x (say t p v x)

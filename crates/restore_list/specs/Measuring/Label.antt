@@ -1,5 +1,5 @@
 -- Rules for testing whether a module alone bears its label.
-use mathlib.Core.Path.{_≡_, refl, sym, _∙_, ap}
+use mathlib.Core.Path.{_≡_, sym, _∙_, ap}
 use mathlib.Core.Bool.{true, false}
 use mathlib.Core.List.{List}
 use Prim.Native.Nat.{ℕ, _+_, _-_}
@@ -10,6 +10,7 @@ use Rattle.room.specs.declared.label.Bearer.{Bearer}
 use Rattle.room.specs.declared.label.Bearer.the-variants.{Only, NotOne}
 use Rattle.room.specs.Label.Length.{label-part}
 use Rattle.wish.specs.Listing.{borneOnce}
+use Rattle.wish.specs.Listing.Reach.{bearer-once, bearer-otherwise}
 
 module _ (t : List ℕ) (m : Module) (n : ℕ) (e : n ≡ length (label t m)) where
   module _ (f : Bearer) (g : f ≡ bearer t (take (m .place + 1 + n - (m .place + 1)) (drop (m .place + 1) t))) where
@@ -17,11 +18,9 @@ module _ (t : List ℕ) (m : Module) (n : ℕ) (e : n ≡ length (label t m)) wh
     told = g ∙ ap (bearer t) (label-part t m n e)
 
     pub borne-once : (o : Module) → f ≡ Only o → true ≡ borneOnce (bearer t (label t m))
-    unfolding borneOnce
-    borne-once o h = rw (sym told, h) refl
+    borne-once o h = sym (bearer-once (bearer t (label t m)) o (sym told ∙ h))
 
     pub borne-otherwise : f ≡ NotOne → false ≡ borneOnce (bearer t (label t m))
-    unfolding borneOnce
-    borne-otherwise h = rw (sym told, h) refl
+    borne-otherwise h = sym (bearer-otherwise (bearer t (label t m)) (sym told ∙ h))
 
 pub ruleset bearing = (borne-once, borne-otherwise)

@@ -3,20 +3,18 @@ use mathlib.Core.Path.{_≡_, refl, ap, sym, _∙_}
 use mathlib.Core.Bool.{Bool, true, false, cond}
 use mathlib.Core.List.{List, [], _∷_, _++_, append-assoc, append-nil}
 use Prim.Native.Nat.{ℕ, _+_, _≤_, _<_}
-use native.Mathlib.Numerals.{add-one}
 use native.Mathlib.Omega.{arith}
 use lib.IntN.{ℤ, pos}
-use lib.ListN.{length, getD, drop, drop-of-length-le}
-use lib.Seq.{drop-cons}
+use lib.ListN.{length, getD, drop}
 use mir.Facts.{toZ-ofZ}
 use mir.Syntax.{w64}
 use mir.Val.{SFits, ofZ, toZ}
 use Rattle.catalogue.specs.Catalogue.{rowsOf}
 use Rattle.values.specs.Parameters.{parametersOf}
-use Rattle.values.specs.Parameters.Laws.{parameterOf, parametersOf-cons}
+use Rattle.values.specs.Parameters.Laws.{length-parametersOf, parameterOf, parametersOf-at}
 use Rattle.room.specs.declared.table.Module.{Module}
-use Rattle.values.specs.declared.parameter.Parameter.{Parameter}
 use Rattle.wish.specs.Listing.{Change, changesOf}
+use Rattle.wish.specs.Listing.Rows.{changes-from, changes-past}
 use Rattle.restore_list.specs.Measuring.{rowChanges}
 use Rattle.values.specs.Values.{equal}
 use Rattle.values.specs.Values.Laws.{equal-refl, equal-true}
@@ -52,11 +50,6 @@ rows-start m vs ws e f = record { many = e; wanted = f; within = omega arith; sp
 abbrev pub changeOf : Module → (present wanted : List ℤ) → ℕ → Change
 changeOf m vs ws j = record { parameter = parameterOf m j; present = getD vs j (pos 0); target = getD ws j (pos 0) }
 
-changes-cons : (p : Parameter) (ps : List Parameter) (v x : ℤ) (vs xs : List ℤ) (b : Bool) → equal v x ≡ b
-    → changesOf (p ∷ ps) (v ∷ vs) (x ∷ xs) ≡ cond b (changesOf ps vs xs) (record { parameter = p; present = v; target = x } ∷ changesOf ps vs xs)
-unfolding changesOf
-changes-cons p ps v x vs xs b e = rw e
-
 module _ (m : Module) (vs ws : List ℤ) (j : ℕ) (done : List Change) (s : RowWalk m vs ws j done) (l : j < length vs) where
   pub row-inside : j < length (rowsOf (m .kind))
   row-inside = omega (arith, s .many)
@@ -67,11 +60,11 @@ module _ (m : Module) (vs ws : List ℤ) (j : ℕ) (done : List Change) (s : Row
   at-row : (b : Bool) → equal (getD vs j (pos 0)) (getD ws j (pos 0)) ≡ b → rowChanges m vs ws ≡ done ++ cond b rest (changeOf m vs ws j ∷ rest)
   unfolding rest
   at-row b e =
+      let i : j < length (parametersOf m) = omega (arith, row-inside, length-parametersOf m) in
       let k : j < length ws = omega (arith, s .many, s .wanted) in
       s .split
       ∙ ap (λ cs. done ++ cs)
-      (rw (parametersOf-cons m j row-inside, drop-cons vs j (pos 0) l, drop-cons ws j (pos 0) k, ← add-one j)
-      (changes-cons (parameterOf m j) (drop (j + 1) (parametersOf m)) (getD vs j (pos 0)) (getD ws j (pos 0)) (drop (j + 1) vs) (drop (j + 1) ws) b e))
+      (changes-from (parametersOf m) vs ws j (parameterOf m j) b i l k e ∙ rw (parametersOf-at m (parameterOf m j) j row-inside))
 
   pub rows-equal : equal (getD vs j (pos 0)) (getD ws j (pos 0)) ≡ true → RowWalk m vs ws (j + 1) done
   unfolding rest
@@ -87,11 +80,6 @@ module _ (m : Module) (vs ws : List ℤ) (j : ℕ) (done : List Change) (s : Row
         split = at-row false e ∙ sym (append-assoc done (changeOf m vs ws j ∷ []) rest);
       }
 
-none-left : (ps : List Parameter) (xs : List ℤ) → changesOf ps [] xs ≡ []
-unfolding changesOf
-none-left [] xs = refl
-none-left (p ∷ ps) xs = refl
-
 pub rows-all : (m : Module) (vs ws : List ℤ) (j : ℕ) (done : List Change) → RowWalk m vs ws j done → length vs ≤ j → rowChanges m vs ws ≡ done
 rows-all m vs ws j done s l =
-    s .split ∙ rw (drop-of-length-le vs l, none-left (drop j (parametersOf m)) (drop j ws)) (append-nil done)
+    s .split ∙ rw (changes-past (parametersOf m) vs ws j l) (append-nil done)

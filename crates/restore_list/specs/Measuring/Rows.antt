@@ -1,6 +1,6 @@
 -- Rules for measuring the changes of a module's rows.
 use mathlib.Core.Path.{_≡_, refl, ap, sym, _∙_}
-use mathlib.Core.Bool.{Bool, true, false, not, _&&_, and-true}
+use mathlib.Core.Bool.{Bool, true, false, not}
 use mathlib.Core.List.{List, [], _∷_, _++_}
 use Prim.Native.Nat.{ℕ, _+_, _*_, _≤_, _<_}
 use native.Mathlib.Omega.{arith}
@@ -12,15 +12,17 @@ use mir.Syntax.{w64}
 use mir.Val.{Fits, SFits, ofZ, toZ}
 use Rattle.catalogue.specs.Catalogue.{known, rowOf, rowsOf}
 use Rattle.catalogue.specs.Catalogue.Laws.{rows-few}
+use Rattle.catalogue.specs.Catalogue.Sized.{row-sized}
 use Rattle.catalogue.specs.declared.row.Row.{Row}
 use Rattle.values.specs.Parameters.Laws.{parameterOf}
 use Rattle.room.specs.declared.table.Module.{Module}
 use Rattle.spelling.specs.Say.{say}
+use Rattle.spelling.specs.Say.Length.{say-short}
 use Rattle.wish.specs.Listing.{Change, listing}
-use Rattle.restore_list.specs.Measuring.{Settles, allSettable, measuredIf, rowChanges}
-use Rattle.restore_list.specs.Measuring.Laws.{listing-append, one-line, settable-append}
+use Rattle.wish.specs.Listing.Laws.{listing-append, listing-none, one-line}
+use Rattle.wish.specs.Listing.Settable.{allSettable, settable-append, settable-none, settable-one}
+use Rattle.restore_list.specs.Measuring.{Settles, measuredIf, rowChanges}
 use Rattle.restore_list.specs.Measuring.RowWalk.{RowWalk, bits-differ, bits-equal, changeOf, row-inside, rows-all, rows-differ, rows-equal, rows-start}
-use Rattle.restore_list.specs.Measuring.Short.{line-short}
 use Rattle.restore_list.specs.Measuring.Told.{few-beyond, few-within}
 use Rattle.restore_list.specs.declared.module_measuring.Measured.the-variants.{Within, Beyond}
 
@@ -37,22 +39,17 @@ pub record Rows (t : List ℕ) (m : Module) (vs ws : List ℤ) (bytes lines j : 
 
 pub rows-none : (t : List ℕ) (m : Module) (vs ws : List ℤ) → known (m .kind) ≡ true → length vs ≡ length (rowsOf (m .kind)) → length ws ≡ length (rowsOf (m .kind))
     → Rows t m vs ws 0 0 0
-unfolding allSettable listing
 rows-none t m vs ws k e f =
     record {
       kinds = k;
       done = [];
       walk = rows-start m vs ws e f;
-      settable = refl;
-      bytes-are = refl;
+      settable = settable-none;
+      bytes-are = rw (listing-none t) refl;
       lines-are = refl;
       short = omega arith;
       few = omega arith;
     }
-
-one-settable : (c : Change) → allSettable (c ∷ []) ≡ (c .parameter .row .settable && true)
-unfolding allSettable
-one-settable c = refl
 
 wrong-first : (cs done rest : List Change) → cs ≡ done ++ rest → allSettable done ≡ false → allSettable cs ≡ false
 wrong-first cs done rest e h = rw (e, settable-append done rest, h) refl
@@ -90,7 +87,7 @@ module _ (t : List ℕ) (m : Module) (vs ws : List ℤ) (bytes lines j : ℕ) (s
     unfolding here
     with-here b q =
         settable-append (s .done) (here ∷ [])
-        ∙ rw (s .settable, one-settable here, sym (ap (λ (x : Row). x .settable) e), q) (and-true b)
+        ∙ rw (s .settable, settable-one here, sym (ap (λ (x : Row). x .settable) e), q)
 
     pub row-read-only : not (r .settable) ≡ true → Settles t (rowChanges m vs ws) Beyond
     unfolding measuredIf
@@ -107,7 +104,9 @@ module _ (t : List ℕ) (m : Module) (vs ws : List ℤ) (bytes lines j : ℕ) (s
       line-is = rw (toZ-ofZ f, toZ-ofZ g, e) at k
 
       line-few : n ≤ 128
-      line-few = let h = line-short t m j row-exists (getD vs j (pos 0)) (getD ws j (pos 0)) g in omega (arith, line-is)
+      line-few =
+          let h = say-short t (parameterOf m j) (getD vs j (pos 0)) (getD ws j (pos 0)) (row-sized (m .kind) j row-exists) g in
+          omega (arith, line-is)
 
       pub row-bytes-fit : Fits w64 (bytes + n)
       row-bytes-fit = record { fits = omega (arith, line-few, s .short, row-exists, rows-few (m .kind) (s .kinds)) }

@@ -1,87 +1,32 @@
 -- The walk over a table's records in the wanted changes: those of the records passed, and those from here on.
 use mathlib.Core.Path.{_≡_, refl, ap, sym, _∙_}
-use mathlib.Core.Bool.{Bool, true, false, cond}
-use mathlib.Core.List.{List, [], _∷_, _++_, append-assoc, append-nil}
+use mathlib.Core.Bool.{true}
+use mathlib.Core.List.{List, [], _++_, append-assoc, append-nil}
 use Prim.Native.Nat.{ℕ, _+_, _≤_, _<_}
-use native.Mathlib.Nat.{le-of-suc-le-suc, not-suc-le-zero}
 use native.Mathlib.Omega.{arith}
-use borrow.Author.Tests.{eqb-true}
-use lib.Dec.{eqb}
 use lib.IntN.{ℤ}
 use lib.ListN.{length, getD, take, drop, length-drop}
 use lib.Seq.{drop-drop}
 use Rattle.catalogue.specs.Catalogue.{rowsOf}
-use Rattle.text.specs.Every.Laws.{both-left}
-use Rattle.catalogue.specs.declared.row.Row.{Row}
 use Rattle.room.specs.Table.{modules, sound}
 use Rattle.record.specs.Body.{bodyLength}
-use Rattle.room.specs.Table.Walk.{walk-known, walk-numbered, walk-room}
-use Rattle.values.specs.Parameters.{numbered, parameters, parametersOf}
+use Rattle.room.specs.Table.Modules.{record-room}
+use Rattle.room.specs.Table.Walk.{walk-known, walk-numbered}
+use Rattle.values.specs.Parameters.{parameters, parametersOf}
 use Rattle.values.specs.Parameters.Laws.{length-parametersOf}
 use Rattle.values.specs.Parameters.Walk.{Counted, counted-next, counted-start, module-count, moduleHere, parametersAt, parameters-end, parameters-next, parameters-start}
 use Rattle.room.specs.declared.table.Module.{Module}
-use Rattle.values.specs.declared.parameter.Parameter.{Parameter}
-use Rattle.wish.specs.Target.{Wish, chosen, chosenPermitted, target, targetOf, wantedRight}
-use Rattle.wish.specs.Target.Wanting.{selection-long}
-use Rattle.wish.specs.Listing.{Admitted, Change, changes, changesOf}
+use Rattle.wish.specs.Target.{Wish}
+use Rattle.wish.specs.Target.Wanting.{selection-long, wanted-long}
+use Rattle.wish.specs.Listing.{Admitted, Change, changes}
+use Rattle.wish.specs.Listing.Wanted.{wanted-all, wanted-append, wanted-module, wanted-none, wantedChanges}
 use Rattle.restore_list.specs.Measuring.{Standing, moduleChanges, rowChanges, valuesOf}
-use Rattle.values.specs.Values.{equal}
-use Rattle.values.specs.Values.Laws.{equal-refl, values-many}
+use Rattle.values.specs.Values.Laws.{values-many}
 
--- the wanted changes of some parameters
-abbrev pub wantedChanges : (selection : List ℕ) → List Parameter → (present wanted : List ℤ) → List Change
-wantedChanges selection ps vs ws = changesOf ps vs (targetOf selection ps vs ws)
-
--- ---- two lists of parameters, one after the other
-
-wanted-append : (selection : List ℕ) (ps qs : List Parameter) (vs ws : List ℤ) → length ps ≤ length vs → length ps ≤ length ws
-    → wantedChanges selection (ps ++ qs) vs ws ≡ wantedChanges selection ps (take (length ps) vs) (take (length ps) ws) ++ wantedChanges selection qs (drop (length ps) vs) (drop (length ps) ws)
-unfolding changesOf targetOf
-wanted-append selection [] qs vs ws h k = refl
-wanted-append selection (p ∷ ps) qs [] ws h k = absurd (not-suc-le-zero h)
-wanted-append selection (p ∷ ps) qs (v ∷ vs) [] h k = absurd (not-suc-le-zero k)
-wanted-append selection (p ∷ ps) qs (v ∷ vs) (w ∷ ws) h k =
-    go (equal v (cond (chosen selection p) w v)) refl (wanted-append selection ps qs vs ws (le-of-suc-le-suc h) (le-of-suc-le-suc k))
-  where
-    x : ℤ
-    x = cond (chosen selection p) w v
-
-    here : Change
-    here = record { parameter = p; present = v; target = x }
-
-    go : (b : Bool) → equal v x ≡ b → (all : wantedChanges selection (ps ++ qs) vs ws ≡ wantedChanges selection ps (take (length ps) vs) (take (length ps) ws) ++ wantedChanges selection qs (drop (length ps) vs) (drop (length ps) ws))
-        → cond (equal v x) (wantedChanges selection (ps ++ qs) vs ws) (here ∷ wantedChanges selection (ps ++ qs) vs ws)
-        ≡ cond (equal v x) (wantedChanges selection ps (take (length ps) vs) (take (length ps) ws)) (here ∷ wantedChanges selection ps (take (length ps) vs) (take (length ps) ws)) ++ wantedChanges selection qs (drop (length ps) vs) (drop (length ps) ws)
-    go true e all = rw e all
-    go false e all = rw e (ap (λ cs. here ∷ cs) all)
-
--- ---- one module: its rows' changes where it is chosen, else none
-
-module _ (selection : List ℕ) (m : Module) where
-  unchosen : (n : ℕ) (rs : List Row) (vs ws : List ℤ) → eqb (getD selection (m .number) 0) 1 ≡ false → wantedChanges selection (numbered m n rs) vs ws ≡ []
-  unfolding numbered changesOf targetOf chosen
-  unchosen n [] vs ws e = refl
-  unchosen n (r ∷ rs) [] ws e = refl
-  unchosen n (r ∷ rs) (v ∷ vs) [] e = refl
-  unchosen n (r ∷ rs) (v ∷ vs) (w ∷ ws) e = rw (e, equal-refl v) (unchosen (n + 1) rs vs ws e)
-
-  its-own : (n : ℕ) (rs : List Row) (vs ws : List ℤ) → eqb (getD selection (m .number) 0) 1 ≡ true
-      → wantedChanges selection (numbered m n rs) vs ws ≡ changesOf (numbered m n rs) vs ws
-  unfolding numbered changesOf targetOf chosen
-  its-own n [] vs ws e = refl
-  its-own n (r ∷ rs) [] ws e = refl
-  its-own n (r ∷ rs) (v ∷ vs) [] e = refl
-  its-own n (r ∷ rs) (v ∷ vs) (w ∷ ws) e = rw (e, its-own (n + 1) rs vs ws e)
-
-  module-wanted : (vs ws : List ℤ) → wantedChanges selection (parametersOf m) (valuesOf m vs) (valuesOf m ws) ≡ moduleChanges selection m vs ws
-  unfolding moduleChanges rowChanges parametersOf
-  module-wanted vs ws = go (eqb (getD selection (m .number) 0) 1) refl
-    where
-      go : (b : Bool) → eqb (getD selection (m .number) 0) 1 ≡ b
-          → wantedChanges selection (numbered m 0 (rowsOf (m .kind))) (valuesOf m vs) (valuesOf m ws)
-          ≡ cond (eqb (getD selection (m .number) 0) 1) (changesOf (numbered m 0 (rowsOf (m .kind))) (valuesOf m vs) (valuesOf m ws)) []
-      go true e = rw e (its-own 0 (rowsOf (m .kind)) (valuesOf m vs) (valuesOf m ws) e)
-      go false e = rw e (unchosen 0 (rowsOf (m .kind)) (valuesOf m vs) (valuesOf m ws) e)
+module-wanted : (selection : List ℕ) (m : Module) (vs ws : List ℤ)
+    → wantedChanges selection (parametersOf m) (valuesOf m vs) (valuesOf m ws) ≡ moduleChanges selection m vs ws
+unfolding moduleChanges rowChanges
+module-wanted selection m vs ws = wanted-module selection m (valuesOf m vs) (valuesOf m ws)
 
 -- ---- the walk
 
@@ -93,20 +38,14 @@ pub record ChangeWalk (w : Wish) (number place first : ℕ) (done : List Change)
   pub wanted-long : length (w .wanted) ≡ length (parameters (w .table))
   pub split : changes w ≡ done ++ wantedChanges (w .selection) (parametersAt (w .table) number place first) (drop first (w .present)) (drop first (w .wanted))
 
-wanted-many : (t selection : List ℕ) (ws : List ℤ) → wantedRight t selection ws ≡ true → length ws ≡ length (parameters t)
-unfolding wantedRight
-wanted-many t selection ws e =
-    eqb-true (length ws) (length (parameters t)) (both-left (eqb (length ws) (length (parameters t))) (chosenPermitted selection (parameters t) ws) e)
-
 pub walk-none : (w : Wish) → Admitted w → ChangeWalk w 0 0 0 []
-unfolding changes target
 walk-none w a =
     record {
       counted = counted-start (w .table) (a .table);
       bytes = selection-long (w .table) (w .selection) (a .selection);
       present-long = values-many (w .table) (w .present) (a .present);
-      wanted-long = wanted-many (w .table) (w .selection) (w .wanted) (a .wanted);
-      split = ap (λ ps. wantedChanges (w .selection) ps (w .present) (w .wanted)) (parameters-start (w .table));
+      wanted-long = wanted-long (w .table) (w .selection) (w .wanted) (a .wanted);
+      split = wanted-all w ∙ ap (λ ps. wantedChanges (w .selection) ps (w .present) (w .wanted)) (parameters-start (w .table));
     }
 
 module _ (w : Wish) (number place first : ℕ) (done : List Change) (s : ChangeWalk w number place first done) (l : place < length (w .table))
@@ -164,14 +103,10 @@ module _ (w : Wish) (number place first : ℕ) (done : List Change) (s : ChangeW
       own : (vs : List ℤ) → take (length (parametersOf here)) (drop first vs) ≡ valuesOf here vs
       own vs = unfold valuesOf here in rw (length-parametersOf (moduleHere (w .table) number place first))
 
-none-left : (selection : List ℕ) (vs ws : List ℤ) → wantedChanges selection [] vs ws ≡ []
-unfolding changesOf
-none-left selection vs ws = refl
-
 pub walk-all : (w : Wish) (number place first : ℕ) (done : List Change) → ChangeWalk w number place first done → length (w .table) ≤ place → changes w ≡ done
 walk-all w number place first done s l =
     s .split
-    ∙ rw (parameters-end (w .table) number place first l, none-left (w .selection) (drop first (w .present)) (drop first (w .wanted))) (append-nil done)
+    ∙ rw (parameters-end (w .table) number place first l, wanted-none (w .selection) (drop first (w .present)) (drop first (w .wanted))) (append-nil done)
 
 -- ---- of the lists that a call is lent
 
@@ -181,7 +116,6 @@ wishOf t vs selection ws = record { table = t; present = vs; selection = selecti
 -- the module at the place stands in the table, and its values in the lists
 pub standing : (t : List ℕ) (vs : List ℤ) (selection : List ℕ) (ws : List ℤ) (number place first : ℕ) (done : List Change)
     → ChangeWalk (wishOf t vs selection ws) number place first done → sound t ≡ true → place < length t → Standing t vs selection ws (moduleHere t number place first)
-unfolding bodyLength
 standing t vs selection ws number place first done s e l =
     let rows = length (rowsOf (getD t place 0)) in
     let w = wishOf t vs selection ws in
@@ -189,7 +123,7 @@ standing t vs selection ws number place first done s e l =
     record {
       sounds = e;
       kinds = walk-known t number place first walk l;
-      room = omega (arith, walk-room t number place first walk l (bodyLength (getD t place 0)) refl);
+      room = omega (arith, record-room t number place first walk l);
       byte = walk-selected w number place first done s l rows refl;
       values = walk-present w number place first done s l rows refl;
       wishes = walk-wanted w number place first done s l rows refl;

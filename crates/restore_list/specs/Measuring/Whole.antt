@@ -14,9 +14,9 @@ use Rattle.record.specs.Body.{bodyLength}
 use Rattle.room.specs.Table.Walk.{Walk, walk-few}
 use Rattle.values.specs.Parameters.Walk.{moduleHere}
 use Rattle.wish.specs.Listing.{Admitted, Change, allReachable, changes, listing}
-use Rattle.restore_list.specs.Measuring.{Measures, Standing, measured, measuredIf, moduleChanges}
-use Rattle.restore_list.specs.Measuring.Laws.{listing-append, reachable-append}
-use Rattle.restore_list.specs.Measuring.Told.{beyond-told, within-told}
+use Rattle.wish.specs.Listing.Laws.{listing-append, listing-none, reachable-append, reachable-none}
+use Rattle.restore_list.specs.Measuring.{Measures, MeasuresModule, Standing, measured, measuredIf, moduleChanges}
+use Rattle.restore_list.specs.Measuring.Told.{beyond-told, measures-by, within-told}
 use Rattle.restore_list.specs.Measuring.Walk.{ChangeWalk, standing, walk-all, walk-changes, walk-none, wishOf}
 use Rattle.restore_list.specs.declared.module_measuring.Measured.{Measured}
 use Rattle.restore_list.specs.declared.module_measuring.Measured.the-variants.{Within, Beyond}
@@ -34,7 +34,6 @@ pub record Sums (t : List ℕ) (vs : List ℤ) (selection : List ℕ) (ws : List
   pub few : lines ≤ 33 * number
 
 pub sums-start : (t : List ℕ) (vs : List ℤ) (selection : List ℕ) (ws : List ℤ) → Admitted (wishOf t vs selection ws) → Sums t vs selection ws 0 0 0 0 0
-unfolding allReachable listing
 sums-start t vs selection ws a =
     let s = walk-none (wishOf t vs selection ws) a in
     record {
@@ -42,8 +41,8 @@ sums-start t vs selection ws a =
       sounds = a .table;
       done = [];
       passed = s;
-      reach = refl;
-      bytes-are = refl;
+      reach = reachable-none t;
+      bytes-are = rw (listing-none t) refl;
       lines-are = refl;
       short = omega arith;
       few = omega arith;
@@ -61,18 +60,19 @@ module _ (t : List ℕ) (vs : List ℤ) (selection : List ℕ) (ws : List ℤ) (
   here : List Change
   here = moduleChanges selection (moduleHere t number place first) vs ws
 
-  module _ (f : Measured) (g : Measures t (moduleChanges selection (moduleHere t number place first) vs ws) f) where
-    pub sums-beyond : f ≡ Beyond → Beyond ≡ measured t (changes (wishOf t vs selection ws))
+  module _ (f : Measured) (g : MeasuresModule t (moduleChanges selection (moduleHere t number place first) vs ws) f) where
+    pub sums-beyond : f ≡ Beyond → Measures t (changes (wishOf t vs selection ws)) Beyond
     unfolding here
     sums-beyond e =
-        let r : allReachable t here ≡ false = beyond-told t here (sym e ∙ g .is) in
+        let r : allReachable t here ≡ false = beyond-told t here (sym e ∙ g .measures .is) in
         let w = walk-changes (wishOf t vs selection ws) number place first (s .done) (s .passed) l (length (rowsOf (getD t place 0))) refl (bodyLength (getD t place 0)) refl in
-        beyond-first t (changes (wishOf t vs selection ws)) (s .done ++ here) _ (w .split) (reachable-append t (s .done) here ∙ rw (s .reach, r) refl)
+        measures-by t (changes (wishOf t vs selection ws)) Beyond
+        (beyond-first t (changes (wishOf t vs selection ws)) (s .done ++ here) _ (w .split) (reachable-append t (s .done) here ∙ rw (s .reach, r) refl))
 
     module _ (b c : ℕ) (e : f ≡ Within b c) where
       told : (allReachable t here ≡ true) × (b ≡ length (listing t here)) × (c ≡ length here)
       unfolding here
-      told = within-told t here b c (sym e ∙ g .is)
+      told = within-told t here b c (sym e ∙ g .measures .is)
 
       pub sums-bytes-fit : Fits w64 (bytes + b)
       sums-bytes-fit = record { fits = omega (arith, s .short, g .few .bytes b c e, walk-few t number place first (s .walk) l) }
@@ -99,10 +99,11 @@ module _ (t : List ℕ) (vs : List ℤ) (selection : List ℕ) (ws : List ℤ) (
           }
 
 pub sums-all : (t : List ℕ) (vs : List ℤ) (selection : List ℕ) (ws : List ℤ) (number place first bytes lines : ℕ)
-    → Sums t vs selection ws number place first bytes lines → length t ≤ place → Within bytes lines ≡ measured t (changes (wishOf t vs selection ws))
+    → Sums t vs selection ws number place first bytes lines → length t ≤ place → Measures t (changes (wishOf t vs selection ws)) (Within bytes lines)
 unfolding measured measuredIf
 sums-all t vs selection ws number place first bytes lines s l =
-    rw (walk-all (wishOf t vs selection ws) number place first (s .done) (s .passed) l, s .reach, s .bytes-are, s .lines-are) refl
+    measures-by t (changes (wishOf t vs selection ws)) (Within bytes lines)
+    (rw (walk-all (wishOf t vs selection ws) number place first (s .done) (s .passed) l, s .reach, s .bytes-are, s .lines-are) refl)
 
 pub ruleset summing =
     (sums-start, sums-standing, sums-beyond, sums-bytes-fit, sums-lines-fit, sums-next, sums-all)

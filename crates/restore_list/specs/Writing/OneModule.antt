@@ -10,13 +10,14 @@ use Rattle.text.specs.Written.{Wrote}
 use Rattle.text.specs.Written.Laws.{wrote-nothing}
 use Rattle.room.specs.declared.table.Module.{Module}
 use Rattle.wish.specs.Listing.{listing}
+use Rattle.wish.specs.Listing.Laws.{listing-none}
 use Rattle.restore_list.specs.Measuring.{moduleChanges, rowChanges}
 use Rattle.restore_list.specs.Measuring.Part.{own-part}
 
 module _ (t selection : List ℕ) (m : Module) (vs ws : List ℤ) (l : List ℕ) (at : ℕ) where
   pub unchosen-wrote : (getD selection (m .number) 0 ≡ 1 → ⊥) → Wrote l at (listing t (moduleChanges selection m vs ws)) at l
-  unfolding moduleChanges listing
-  unchosen-wrote h = rw (ne-eqb (getD selection (m .number) 0) 1 h) (wrote-nothing l at)
+  unfolding moduleChanges
+  unchosen-wrote h = rw (ne-eqb (getD selection (m .number) 0) 1 h, listing-none t) (wrote-nothing l at)
 
   module _ (k : getD selection (m .number) 0 ≡ 1) (rows : ℕ) (n : rows ≡ length (rowsOf (m .kind))) where
     own-changes : moduleChanges selection m vs ws

@@ -16,8 +16,8 @@ use Rattle.values.specs.Parameters.Laws.{parameterOf}
 use Rattle.room.specs.declared.table.Module.{Module}
 use Rattle.spelling.specs.Say.{say}
 use Rattle.wish.specs.Listing.{Change, listing}
+use Rattle.wish.specs.Listing.Laws.{first-fits, listing-append, listing-none, one-line}
 use Rattle.restore_list.specs.Measuring.{rowChanges}
-use Rattle.restore_list.specs.Measuring.Laws.{first-fits, listing-append, one-line}
 use Rattle.restore_list.specs.Measuring.RowWalk.{RowWalk, bits-differ, bits-equal, changeOf, row-inside, rows-all, rows-differ, rows-equal, rows-start}
 
 -- the lines of the first j rows were written
@@ -30,8 +30,8 @@ pub record RowsPut (t : List ℕ) (m : Module) (vs ws : List ℤ) (buffer : List
 
 pub put-none : (t : List ℕ) (m : Module) (vs ws : List ℤ) (buffer : List ℕ) (start : ℕ) → length vs ≡ length (rowsOf (m .kind)) → length ws ≡ length (rowsOf (m .kind))
     → start + length (listing t (rowChanges m vs ws)) ≤ length buffer → RowsPut t m vs ws buffer start buffer start 0
-unfolding listing
-put-none t m vs ws buffer start e f h = record { done = []; walk = rows-start m vs ws e f; room = h; wrote = wrote-nothing buffer start; long = refl }
+put-none t m vs ws buffer start e f h =
+    record { done = []; walk = rows-start m vs ws e f; room = h; wrote = rw (listing-none t) (wrote-nothing buffer start); long = refl }
 
 module _ (t : List ℕ) (m : Module) (vs ws : List ℤ) (buffer : List ℕ) (start : ℕ) (after : List ℕ) (at j : ℕ) (s : RowsPut t m vs ws buffer start after at j) (l : j < length vs) where
   pub put-exists : j < length (rowsOf (m .kind))

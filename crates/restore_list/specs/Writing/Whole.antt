@@ -14,8 +14,8 @@ use Rattle.record.specs.Body.{bodyLength}
 use Rattle.room.specs.Table.Walk.{Walk}
 use Rattle.values.specs.Parameters.Walk.{moduleHere}
 use Rattle.wish.specs.Listing.{Admitted, Change, changes, listing}
+use Rattle.wish.specs.Listing.Laws.{first-fits, listing-append, listing-none}
 use Rattle.restore_list.specs.Measuring.{Standing, moduleChanges}
-use Rattle.restore_list.specs.Measuring.Laws.{first-fits, listing-append}
 use Rattle.restore_list.specs.Measuring.Walk.{ChangeWalk, standing, walk-all, walk-changes, walk-none, wishOf}
 
 -- the lines of the records passed were written
@@ -30,10 +30,17 @@ pub record Puts (t : List ℕ) (vs : List ℤ) (selection : List ℕ) (ws : List
 
 pub puts-start : (t : List ℕ) (vs : List ℤ) (selection : List ℕ) (ws : List ℤ) (buffer : List ℕ) → Admitted (wishOf t vs selection ws)
     → length (listing t (changes (wishOf t vs selection ws))) ≤ length buffer → Puts t vs selection ws buffer buffer 0 0 0 0
-unfolding listing
 puts-start t vs selection ws buffer a h =
     let s = walk-none (wishOf t vs selection ws) a in
-    record { walk = s .counted .walk; sounds = a .table; done = []; passed = s; room = h; wrote = wrote-nothing buffer 0; long = refl }
+    record {
+      walk = s .counted .walk;
+      sounds = a .table;
+      done = [];
+      passed = s;
+      room = h;
+      wrote = rw (listing-none t) (wrote-nothing buffer 0);
+      long = refl;
+    }
 
 module _ (t : List ℕ) (vs : List ℤ) (selection : List ℕ) (ws : List ℤ) (buffer after : List ℕ) (number place first at : ℕ)
     (s : Puts t vs selection ws buffer after number place first at) (l : place < length t) where

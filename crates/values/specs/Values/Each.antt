@@ -18,8 +18,7 @@ use Rattle.values.specs.Parameters.Walk.{Counted, counted-all, counted-n
 use Rattle.values.specs.declared.parameter.Parameter.{Parameter}
 
 -- f tests each of some parameters with its value
-pub record Tests (f : List Parameter → List ℤ → Bool) : Type 0 where
-  pub test : Parameter → ℤ → Bool
+pub record Tests (f : List Parameter → List ℤ → Bool) (test : Parameter → ℤ → Bool) : Type 0 where
   pub none : (vs : List ℤ) → f [] vs ≡ true
   pub one : (p : Parameter) (ps : List Parameter) (v : ℤ) (vs : List ℤ) → f (p ∷ ps) (v ∷ vs) ≡ (test p v && f ps vs)
 
@@ -38,12 +37,13 @@ module _ (f : List Parameter → List ℤ → Bool) where
   each-start t vs e = record { counted = counted-start t e; within = omega arith; rest = ap (λ (ps : List Parameter). f ps vs) (parameters-start t) }
 
   -- two lists of parameters, one after the other
-  append : Tests f → (ps qs : List Parameter) (vs : List ℤ) → length ps ≤ length vs → f (ps ++ qs) vs ≡ (f ps (take (length ps) vs) && f qs (drop (length ps) vs))
+  append : {test : Parameter → ℤ → Bool} → Tests f test → (ps qs : List Parameter) (vs : List ℤ) → length ps ≤ length vs
+      → f (ps ++ qs) vs ≡ (f ps (take (length ps) vs) && f qs (drop (length ps) vs))
   append s [] qs vs h = rw (s .none (take 0 vs))
   append s (p ∷ ps) qs [] h = absurd (not-suc-le-zero h)
-  append s (p ∷ ps) qs (v ∷ vs) h =
+  append {test} s (p ∷ ps) qs (v ∷ vs) h =
       rw (s .one p (ps ++ qs) v vs, s .one p ps v (take (length ps) vs), append s ps qs vs (le-of-suc-le-suc h))
-      (sym (and-assoc (s .test p v) (f ps (take (length ps) vs)) (f qs (drop (length ps) vs))))
+      (sym (and-assoc (test p v) (f ps (take (length ps) vs)) (f qs (drop (length ps) vs))))
 
   module _ (t : List ℕ) (vs : List ℤ) (number place first : ℕ) (s : Each f t vs number place first) (l : place < length t) (rows : ℕ) (n : rows ≡ length (rowsOf (getD t place 0))) where
     pub each-short : length vs - first < rows → false ≡ allPass f t vs
@@ -52,7 +52,8 @@ module _ (f : List Parameter → List ℤ → Bool) where
         rw (ne-eqb (length vs) (length (parameters t)) (λ e. omega (arith, c .total, s .within)))
 
     -- b says whether the values of this record pass
-    module _ (r : Tests f) (room : rows ≤ length vs - first) (b : Bool) (g : f (parametersOf (moduleHere t number place first)) (take rows (drop first vs)) ≡ b) where
+    module _ {test : Parameter → ℤ → Bool} (r : Tests f test) (room : rows ≤ length vs - first) (b : Bool)
+        (g : f (parametersOf (moduleHere t number place first)) (take rows (drop first vs)) ≡ b) where
       at-module : (size : ℕ) → size ≡ bodyLength (getD t place 0) → f (parameters t) vs ≡ (b && f (parametersAt t (number + 1) (place + 1 + size) (first + rows)) (drop (first + rows) vs))
       at-module size e =
           let here = parametersOf (moduleHere t number place first) in
@@ -70,7 +71,8 @@ module _ (f : List Parameter → List ℤ → Bool) where
       each-next size e h =
           record { counted = counted-next t number place first (s .counted) l size rows e n; within = omega (arith, s .within); rest = rw h at (at-module size e) }
 
-  pub each-all : Tests f → (t : List ℕ) (vs : List ℤ) (number place first : ℕ) → Each f t vs number place first → length t ≤ place → eqb first (length vs) ≡ allPass f t vs
+  pub each-all : {test : Parameter → ℤ → Bool} → Tests f test → (t : List ℕ) (vs : List ℤ) (number place first : ℕ)
+      → Each f t vs number place first → length t ≤ place → eqb first (length vs) ≡ allPass f t vs
   each-all r t vs number place first s l = rw passed (go (eqb first (length vs)) refl)
     where
       passed : f (parameters t) vs ≡ true

@@ -16,13 +16,10 @@ use Rattle.catalogue.specs.Row.{permitted}
 use Rattle.record.specs.Body.{bodyLength}
 use Rattle.values.specs.Values.{eachPermitted, valuesSound}
 use Rattle.values.specs.Permit.{rowsPermit}
-use Rattle.values.specs.Values.Each.{Each, Tests, each-all, each-next, each-short, each-start, each-wrong}
+use Rattle.values.specs.Values.Each.{Each, each-all, each-next, each-short, each-start, each-wrong}
+use Rattle.values.specs.Values.Laws.{each-tests}
 use Rattle.catalogue.specs.declared.row.Row.{Row}
 use Rattle.room.specs.declared.table.Module.{Module}
-
-tests : Tests eachPermitted
-unfolding eachPermitted
-tests = record { test = λ p v. permitted (p .row) v; none = λ vs. refl; one = λ p ps v vs. refl }
 
 -- ---- parameters and rows
 
@@ -32,7 +29,7 @@ numbered-permit m n [] vs = refl
 numbered-permit m n (r ∷ rs) [] = refl
 numbered-permit m n (r ∷ rs) (v ∷ vs) = ap (λ (b : Bool). permitted r v && b) (numbered-permit m (n + 1) rs vs)
 
-module-permit : (m : Module) (vs : List ℤ) → eachPermitted (parametersOf m) vs ≡ rowsPermit (rowsOf (m .kind)) vs
+pub module-permit : (m : Module) (vs : List ℤ) → eachPermitted (parametersOf m) vs ≡ rowsPermit (rowsOf (m .kind)) vs
 unfolding parametersOf
 module-permit m vs = numbered-permit m 0 (rowsOf (m .kind)) vs
 
@@ -54,13 +51,13 @@ module _ (t : List ℕ) (vs : List ℤ) (number place first : ℕ) (s : Fitting 
 
     pub fitting-wrong : b ≡ false → false ≡ valuesSound t vs
     unfolding valuesSound
-    fitting-wrong h = each-wrong eachPermitted t vs number place first s l rows n tests room b here h
+    fitting-wrong h = each-wrong eachPermitted t vs number place first s l rows n each-tests room b here h
 
     pub fitting-next : (size : ℕ) → size ≡ bodyLength (getD t place 0) → b ≡ true → Fitting t vs (number + 1) (place + 1 + size) (first + rows)
-    fitting-next size e h = each-next eachPermitted t vs number place first s l rows n tests room b here size e h
+    fitting-next size e h = each-next eachPermitted t vs number place first s l rows n each-tests room b here size e h
 
 pub fitting-all : (t : List ℕ) (vs : List ℤ) (number place first : ℕ) → Fitting t vs number place first → length t ≤ place → eqb first (length vs) ≡ valuesSound t vs
 unfolding valuesSound
-fitting-all t vs number place first s l = each-all eachPermitted tests t vs number place first s l
+fitting-all t vs number place first s l = each-all eachPermitted each-tests t vs number place first s l
 
 pub ruleset fitting = (each-start, fitting-short, fitting-wrong, fitting-next, fitting-all, part-left, not-true, not-false)

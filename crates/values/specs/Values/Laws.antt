@@ -13,6 +13,8 @@ use Rattle.values.specs.Parameters.{parameters, parameterAt}
 use Rattle.values.specs.Parameters.Places.{found-same, never-found}
 use Rattle.catalogue.specs.Row.{permitted}
 use Rattle.values.specs.Values.{eachPermitted, equal, valuesSound}
+use Rattle.values.specs.Values.Each.{Tests}
+use Rattle.values.specs.Values.Tested.{tested-all, tested-at}
 use Rattle.values.specs.declared.parameter.Parameter.{Parameter}
 use Rattle.values.specs.declared.parameter.ParameterFound.the-variants.{At}
 
@@ -27,6 +29,11 @@ equal-true (pos m) (pos n) e = ap pos (eqb-true m n e)
 equal-true (pos m) (negsuc n) e = absurd (true≢false (sym e))
 equal-true (negsuc m) (pos n) e = absurd (true≢false (sym e))
 equal-true (negsuc m) (negsuc n) e = ap negsuc (eqb-true m n e)
+
+-- each value is tested by its parameter's row
+pub each-tests : Tests eachPermitted (λ p v. permitted (p .row) v)
+unfolding eachPermitted
+each-tests = record { none = λ vs. refl; one = λ p ps v vs. refl }
 
 -- right values are as many as the parameters, and each is permitted
 pub values-many : (t : List ℕ) (vs : List ℤ) → valuesSound t vs ≡ true → length vs ≡ length (parameters t)
@@ -58,19 +65,14 @@ pub set-sound : (t : List ℕ) (vs : List ℤ) (k : ℕ) (p : Parameter) (x : �
 set-sound t vs k p x e h v =
     values-right t (set vs k x) (length-set vs k x ∙ values-many t vs v) (each-set (parameters t) vs k p x e h (values-each t vs v))
 
--- the value at a parameter's place is permitted for its row
-each-at : (ps : List Parameter) (vs : List ℤ) (k : ℕ) (p : Parameter) → length vs ≡ length ps → parameterAt ps k ≡ At p
-    → eachPermitted ps vs ≡ true → permitted (p .row) (getD vs k (pos 0)) ≡ true
-unfolding eachPermitted parameterAt
-each-at [] vs k p l e v = never-found p e
-each-at (q ∷ ps) [] k p l e v = absurd (omega arith)
-each-at (q ∷ ps) (w ∷ vs) zero p l e v =
-    ap (λ r. permitted (r .row) w) (sym (found-same q p e)) ∙ both-left (permitted (q .row) w) (eachPermitted ps vs) v
-each-at (q ∷ ps) (w ∷ vs) (suc k) p l e v = each-at ps vs k p (omega arith) e (both-right (permitted (q .row) w) (eachPermitted ps vs) v)
-
+-- the value at a parameter's place is permitted for its row, and a list of such values is right
 pub value-permitted : (t : List ℕ) (vs : List ℤ) (k : ℕ) (p : Parameter) → valuesSound t vs ≡ true → parameterAt (parameters t) k ≡ At p
     → permitted (p .row) (getD vs k (pos 0)) ≡ true
-value-permitted t vs k p v e = each-at (parameters t) vs k p (values-many t vs v) e (values-each t vs v)
+value-permitted t vs k p v e = tested-at each-tests (parameters t) vs k p (omega (arith, values-many t vs v)) (values-each t vs v) e
+
+pub values-permitted : (t : List ℕ) (vs : List ℤ) → length vs ≡ length (parameters t)
+    → ((k : ℕ) (p : Parameter) → parameterAt (parameters t) k ≡ At p → permitted (p .row) (getD vs k (pos 0)) ≡ true) → valuesSound t vs ≡ true
+values-permitted t vs n h = values-right t vs n (tested-all each-tests (parameters t) vs (omega arith) h)
 
 -- a parameter's place is a place of the value list
 pub at-inside : (ps : List Parameter) (k : ℕ) (p : Parameter) → parameterAt ps k ≡ At p → k < length ps

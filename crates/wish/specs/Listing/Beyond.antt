@@ -5,10 +5,12 @@ use mathlib.Core.List.{List, [], _∷_}
 use Prim.Native.Nat.{ℕ, suc}
 use lib.IntN.{ℤ, pos}
 use lib.ListN.{getD}
-use Rattle.values.specs.Parameters.{parameterAt}
+use Rattle.values.specs.Parameters.{parameterAt, parameters}
+use Rattle.values.specs.Parameters.Elements.{element-first, element-later}
 use Rattle.values.specs.declared.parameter.Parameter.{Parameter}
 use Rattle.values.specs.declared.parameter.ParameterFound.the-variants.{At}
-use Rattle.wish.specs.Listing.{Change, changesOf, reachable, allReachable}
+use Rattle.wish.specs.Target.{Wish, target}
+use Rattle.wish.specs.Listing.{Change, changesOf, changes, reachable, allReachable}
 use Rattle.values.specs.Values.{equal}
 use Rattle.values.specs.Values.Laws.{equal-refl}
 
@@ -21,7 +23,7 @@ pub record Beyond (t : List ℕ) (ps : List Parameter) (vs xs : List ℤ) : Type
   pub differs : getD vs number (pos 0) ≡ getD xs number (pos 0) → ⊥
 
 pub beyond : (t : List ℕ) (ps : List Parameter) (vs xs : List ℤ) → allReachable t (changesOf ps vs xs) ≡ false → Beyond t ps vs xs
-unfolding changesOf allReachable parameterAt
+unfolding changesOf allReachable
 beyond t [] vs xs e = absurd (true≢false e)
 beyond t (p ∷ ps) [] xs e = absurd (true≢false e)
 beyond t (p ∷ ps) (v ∷ vs) [] e = absurd (true≢false e)
@@ -34,11 +36,29 @@ beyond t (p ∷ ps) (v ∷ vs) (x ∷ xs) e = go (equal v x) (reachable t p) ref
     cs = changesOf ps vs xs
 
     further : Beyond t ps vs xs → Beyond t (p ∷ ps) (v ∷ vs) (x ∷ xs)
-    further b = record { number = suc (b .number); parameter = b .parameter; found = b .found; blocked = b .blocked; differs = b .differs }
+    further b =
+        record {
+          number = suc (b .number);
+          parameter = b .parameter;
+          found = element-later p ps (b .number) ∙ b .found;
+          blocked = b .blocked;
+          differs = b .differs;
+        }
 
     go : (q r : Bool) → equal v x ≡ q → reachable t p ≡ r → allReachable t (cond q cs (c ∷ cs)) ≡ false
         → (allReachable t cs ≡ false → Beyond t ps vs xs) → Beyond t (p ∷ ps) (v ∷ vs) (x ∷ xs)
     go true r q b h below = further (below h)
     go false true q b h below = further (below (rw b at h))
     go false false q b h below =
-        record { number = 0; parameter = p; found = refl; blocked = b; differs = λ s. true≢false (sym (equal-refl x) ∙ ap (λ y. equal y x) (sym s) ∙ q) }
+        record {
+          number = 0;
+          parameter = p;
+          found = element-first p ps;
+          blocked = b;
+          differs = λ s. true≢false (sym (equal-refl x) ∙ ap (λ y. equal y x) (sym s) ∙ q);
+        }
+
+-- of a wish
+pub wish-beyond : (w : Wish) → allReachable (w .table) (changes w) ≡ false → Beyond (w .table) (parameters (w .table)) (w .present) (target w)
+unfolding changes
+wish-beyond w e = beyond (w .table) (parameters (w .table)) (w .present) (target w) e

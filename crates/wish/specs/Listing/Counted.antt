@@ -6,18 +6,19 @@ use Prim.Native.Nat.{ℕ, suc}
 use lib.IntN.{ℤ}
 use lib.ListN.{length}
 use Rattle.values.specs.declared.parameter.Parameter.{Parameter}
-use Rattle.wish.specs.Target.{chosen, targetOf, differing}
-use Rattle.wish.specs.Listing.{Change, changesOf}
+use Rattle.values.specs.Parameters.{parameters}
+use Rattle.wish.specs.Target.{Wish, chosen, target, targetOf, differing}
+use Rattle.wish.specs.Listing.{Change, changes, changesOf}
 use Rattle.values.specs.Values.{equal}
 use Rattle.values.specs.Values.Laws.{equal-refl}
 
-pub lines-differing : (selection : List ℕ) (ps : List Parameter) (vs ws : List ℤ)
+changes-differing : (selection : List ℕ) (ps : List Parameter) (vs ws : List ℤ)
     → length (changesOf ps vs (targetOf selection ps vs ws)) ≡ differing selection ps vs ws
 unfolding changesOf targetOf differing
-lines-differing selection [] vs ws = refl
-lines-differing selection (p ∷ ps) [] ws = refl
-lines-differing selection (p ∷ ps) (v ∷ vs) [] = refl
-lines-differing selection (p ∷ ps) (v ∷ vs) (w ∷ ws) = go (chosen selection p) (equal v w) refl (lines-differing selection ps vs ws)
+changes-differing selection [] vs ws = refl
+changes-differing selection (p ∷ ps) [] ws = refl
+changes-differing selection (p ∷ ps) (v ∷ vs) [] = refl
+changes-differing selection (p ∷ ps) (v ∷ vs) (w ∷ ws) = go (chosen selection p) (equal v w) refl (changes-differing selection ps vs ws)
   where
     rest : List Change
     rest = changesOf ps vs (targetOf selection ps vs ws)
@@ -28,3 +29,7 @@ lines-differing selection (p ∷ ps) (v ∷ vs) (w ∷ ws) = go (chosen selectio
     go true true q h = rw q h
     go true false q h = rw q (ap suc h)
     go false e q h = rw (equal-refl v) h
+
+pub lines-differing : (w : Wish) → length (changes w) ≡ differing (w .selection) (parameters (w .table)) (w .present) (w .wanted)
+unfolding changes target
+lines-differing w = changes-differing (w .selection) (parameters (w .table)) (w .present) (w .wanted)

@@ -1,22 +1,21 @@
--- Laws of the target list: as long as the value list, and right for the table.
+-- Laws of the target list: as long as the value list, what it is at each place, and that it is right for the table.
 use mathlib.Core.Path.{_≡_, refl, ap}
 use mathlib.Core.Bool.{Bool, true, false, not, cond, _||_}
 use mathlib.Core.List.{List, [], _∷_}
-use Prim.Native.Nat.{ℕ, suc}
+use Prim.Native.Nat.{ℕ, zero, suc, _<_}
 use native.Mathlib.Omega.{arith}
-use borrow.Author.Tests.{eqb-true}
-use lib.Dec.{eqb}
-use lib.IntN.{ℤ}
-use lib.ListN.{length}
+use lib.IntN.{ℤ, pos}
+use lib.ListN.{length, getD}
 use Rattle.catalogue.specs.Row.{permitted}
-use Rattle.text.specs.Every.Laws.{both-left, both-right}
-use Rattle.values.specs.Parameters.{parameters}
-use Rattle.values.specs.Values.{eachPermitted, valuesSound}
+use Rattle.values.specs.Parameters.{parameterAt, parameters}
+use Rattle.values.specs.Parameters.Elements.{at-element}
+use Rattle.values.specs.Values.{valuesSound}
+use Rattle.values.specs.Values.Laws.{at-inside, value-permitted, values-many, values-permitted}
+use Rattle.values.specs.Values.Tested.{tested-at}
 use Rattle.values.specs.declared.parameter.Parameter.{Parameter}
-use Rattle.wish.specs.Target.{Wish, chosen, chosenPermitted, wantedRight, targetOf, target}
-use Rattle.values.specs.Values.Laws.{values-right, values-many, values-each}
-
--- ---- the target is as long as the value list
+use Rattle.values.specs.declared.parameter.ParameterFound.the-variants.{At}
+use Rattle.wish.specs.Target.{Wish, chosen, wantedRight, targetOf, target}
+use Rattle.wish.specs.Target.Wanting.{chosen-tests, wanted-each, wanted-long}
 
 target-length : (selection : List ℕ) (ps : List Parameter) (vs ws : List ℤ) → length vs ≡ length ps → length ws ≡ length ps
     → length (targetOf selection ps vs ws) ≡ length ps
@@ -26,31 +25,41 @@ target-length selection (p ∷ ps) [] ws a b = absurd (omega arith)
 target-length selection (p ∷ ps) (v ∷ vs) [] a b = absurd (omega arith)
 target-length selection (p ∷ ps) (v ∷ vs) (w ∷ ws) a b = ap suc (target-length selection ps vs ws (omega arith) (omega arith))
 
--- ---- permitted: a chosen module's entry is, and so is a present value
+-- at each place: the wanted value of a chosen module's parameter, and the present one of any other
+target-at : (selection : List ℕ) (ps : List Parameter) (vs ws : List ℤ) (k : ℕ) (d : Parameter)
+    → length vs ≡ length ps → length ws ≡ length ps → k < length ps
+    → getD (targetOf selection ps vs ws) k (pos 0) ≡ cond (chosen selection (getD ps k d)) (getD ws k (pos 0)) (getD vs k (pos 0))
+unfolding targetOf
+target-at selection [] vs ws k d a b h = absurd (omega arith)
+target-at selection (p ∷ ps) [] ws k d a b h = absurd (omega arith)
+target-at selection (p ∷ ps) (v ∷ vs) [] k d a b h = absurd (omega arith)
+target-at selection (p ∷ ps) (v ∷ vs) (w ∷ ws) zero d a b h = refl
+target-at selection (p ∷ ps) (v ∷ vs) (w ∷ ws) (suc k) d a b h = target-at selection ps vs ws k d (omega arith) (omega arith) (omega arith)
 
-target-each : (selection : List ℕ) (ps : List Parameter) (vs ws : List ℤ) → eachPermitted ps vs ≡ true → chosenPermitted selection ps ws ≡ true
-    → eachPermitted ps (targetOf selection ps vs ws) ≡ true
-unfolding targetOf eachPermitted chosenPermitted
-target-each selection [] vs ws a b = refl
-target-each selection (p ∷ ps) [] ws a b = refl
-target-each selection (p ∷ ps) (v ∷ vs) [] a b = refl
-target-each selection (p ∷ ps) (v ∷ vs) (w ∷ ws) a b =
-    rw (one (chosen selection p) (both-left (permitted (p .row) v) (eachPermitted ps vs) a)
-    (both-left (not (chosen selection p) || permitted (p .row) w) (chosenPermitted selection ps ws) b))
-    (target-each selection ps vs ws (both-right (permitted (p .row) v) (eachPermitted ps vs) a)
-    (both-right (not (chosen selection p) || permitted (p .row) w) (chosenPermitted selection ps ws) b))
-  where
-    one : (c : Bool) → permitted (p .row) v ≡ true → (not c || permitted (p .row) w) ≡ true → permitted (p .row) (cond c w v) ≡ true
-    one true a b = b
-    one false a b = a
+module _ (w : Wish) (a : valuesSound (w .table) (w .present) ≡ true) (b : wantedRight (w .table) (w .selection) (w .wanted) ≡ true) where
+  -- permitted: a chosen module's entry is, and so is a present value
+  permitted-at : (k : ℕ) (p : Parameter) → parameterAt (parameters (w .table)) k ≡ At p → permitted (p .row) (getD (target w) k (pos 0)) ≡ true
+  unfolding target
+  permitted-at k p e =
+      let t = w .table in
+      let n = wanted-long t (w .selection) (w .wanted) b in
+      let c = tested-at (chosen-tests (w .selection)) (parameters t) (w .wanted) k p (omega arith) (wanted-each t (w .selection) (w .wanted) b) e in
+      rw (
+        target-at (w .selection) (parameters t) (w .present) (w .wanted) k p (values-many t (w .present) a) n (at-inside (parameters t) k p e),
+        at-element (parameters t) k p p e,
+      )
+      (one (chosen (w .selection) p) (value-permitted t (w .present) k p a e) c)
+    where
+      one : (c : Bool) → permitted (p .row) (getD (w .present) k (pos 0)) ≡ true → (not c || permitted (p .row) (getD (w .wanted) k (pos 0))) ≡ true
+          → permitted (p .row) (cond c (getD (w .wanted) k (pos 0)) (getD (w .present) k (pos 0))) ≡ true
+      one true v h = h
+      one false v h = v
 
-pub target-right : (w : Wish) → valuesSound (w .table) (w .present) ≡ true → wantedRight (w .table) (w .selection) (w .wanted) ≡ true
-    → valuesSound (w .table) (target w) ≡ true
-unfolding wantedRight target
-target-right w a b =
-    let ps = parameters (w .table) in
-    let n = eqb-true (length (w .wanted)) (length ps) (both-left (eqb (length (w .wanted)) (length ps)) (chosenPermitted (w .selection) ps (w .wanted)) b) in
-    values-right (w .table) (targetOf (w .selection) ps (w .present) (w .wanted))
-    (target-length (w .selection) ps (w .present) (w .wanted) (values-many (w .table) (w .present) a) n)
-    (target-each (w .selection) ps (w .present) (w .wanted) (values-each (w .table) (w .present) a)
-    (both-right (eqb (length (w .wanted)) (length ps)) (chosenPermitted (w .selection) ps (w .wanted)) b))
+  pub target-right : valuesSound (w .table) (target w) ≡ true
+  target-right = values-permitted (w .table) (target w) many permitted-at
+    where
+      many : length (target w) ≡ length (parameters (w .table))
+      many =
+          unfold target in
+          target-length (w .selection) (parameters (w .table)) (w .present) (w .wanted) (values-many (w .table) (w .present) a)
+          (wanted-long (w .table) (w .selection) (w .wanted) b)

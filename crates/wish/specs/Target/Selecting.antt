@@ -1,16 +1,15 @@
 -- Rules for testing the selection, one module's byte after the other.
 use mathlib.Core.Path.{_≡_, refl, sym, _∙_}
 use mathlib.Core.Bool.{Bool, true, false, _&&_, and-false}
-use mathlib.Core.List.{List, []}
+use mathlib.Core.List.{List}
 use Prim.Native.Nat.{ℕ, _+_, _≤_, _<_}
-use native.Mathlib.Numerals.{add-one}
 use native.Mathlib.Omega.{arith}
 use borrow.Author.Tests.{eq-eqb, eqb-false, eqb-true, lt-leb, le-leb, ne-eqb}
 use lib.Dec.{eqb}
-use lib.ListN.{length, getD, drop, drop-of-length-le}
-use lib.Seq.{drop-cons}
+use lib.ListN.{length, getD, drop}
 use Rattle.catalogue.specs.Catalogue.{known, rowsOf}
 use Rattle.text.specs.Every.{every}
+use Rattle.text.specs.Every.Steps.{every-from, every-past}
 use Rattle.room.specs.Table.{modules, sound}
 use Rattle.record.specs.Body.{bodyLength}
 use Rattle.room.specs.Table.Walk.{Walk, place-fits, walk-counted, walk-few, walk-known, walk-next, walk-numbered, walk-start}
@@ -41,8 +40,7 @@ module _ (t selection : List ℕ) (number place : ℕ) (s : Selecting t selectio
   selecting-short h = sym (wrong-length t selection (λ e. omega (arith, walk-numbered t number place (s .first) (s .walk) l)))
 
   at-byte : number < length selection → every atMostOne selection ≡ (atMostOne (getD selection number 0) && every atMostOne (drop (number + 1) selection))
-  unfolding every
-  at-byte h = s .rest ∙ rw (add-one, drop-cons selection number 0 h)
+  at-byte h = s .rest ∙ every-from atMostOne selection 0 number h
 
   pub selecting-wrong : number < length selection → 1 < getD selection number 0 → false ≡ selectionRight t selection
   unfolding atMostOne
@@ -70,7 +68,7 @@ module _ (t selection : List ℕ) (number place : ℕ) (s : Selecting t selectio
 
 pub selecting-all : (t selection : List ℕ) (number place : ℕ) → Selecting t selection number place → length t ≤ place
     → eqb number (length selection) ≡ selectionRight t selection
-unfolding selectionRight every
+unfolding selectionRight
 selecting-all t selection number place s l = go (eqb number (length selection)) refl
   where
     many : length (modules t) ≡ number
@@ -79,8 +77,7 @@ selecting-all t selection number place s l = go (eqb number (length selection)) 
     go : (b : Bool) → eqb number (length selection) ≡ b → eqb number (length selection) ≡ (eqb (length selection) (length (modules t)) && every atMostOne selection)
     go true e =
         let n : number ≡ length selection = eqb-true number (length selection) e in
-        let left : drop number selection ≡ [] = drop-of-length-le selection {i = number} (omega arith) in
-        rw (e, eq-eqb (length selection) (length (modules t)) (omega (arith, many)), s .rest, left)
+        rw (e, eq-eqb (length selection) (length (modules t)) (omega (arith, many)), s .rest, every-past atMostOne selection number (omega arith))
     go false e = rw (e, ne-eqb (length selection) (length (modules t)) (λ f. eqb-false number (length selection) e (omega (arith, many))))
 
 pub ruleset selecting =

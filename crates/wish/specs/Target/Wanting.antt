@@ -1,52 +1,57 @@
 -- Rules for testing the wanted values, module by module.
-use mathlib.Core.Path.{_≡_, refl, ap, sym, _∙_}
-use mathlib.Core.Bool.{Bool, true, false, not, _&&_, _||_}
-use mathlib.Core.List.{List, [], _∷_}
+use mathlib.Core.Path.{_≡_, refl, sym, _∙_}
+use mathlib.Core.Bool.{Bool, true, false, not, _||_}
+use mathlib.Core.List.{List}
 use Prim.Native.Nat.{ℕ, _+_, _-_, _≤_, _<_}
 use native.Mathlib.Omega.{arith}
 use borrow.Author.Tests.{eq-eqb, eqb-true, ne-eqb, not-false, not-true}
 use lib.Dec.{eqb}
 use lib.IntN.{ℤ}
-use lib.ListN.{length, getD, take, drop}
+use lib.ListN.{length, getD, take, drop, length-drop, length-take}
 use Rattle.catalogue.specs.Catalogue.{rowsOf}
 use Rattle.catalogue.specs.Row.{permitted}
-use Rattle.catalogue.specs.declared.row.Row.{Row}
 use Rattle.room.specs.Table.{modules, sound}
 use Rattle.record.specs.Body.{bodyLength}
 use Rattle.room.specs.Table.Walk.{walk-numbered}
-use Rattle.values.specs.Parameters.{numbered, parametersOf}
+use Rattle.values.specs.Parameters.{parameters, parametersOf}
+use Rattle.values.specs.Parameters.Laws.{length-parametersOf}
+use Rattle.values.specs.Parameters.Owned.{owned}
 use Rattle.values.specs.Parameters.Walk.{moduleHere}
 use Rattle.values.specs.Permit.{rowsPermit}
 use Rattle.values.specs.Values.Each.{Each, Tests, each-all, each-next, each-short, each-start, each-wrong}
+use Rattle.values.specs.Values.Fitting.{module-permit}
+use Rattle.values.specs.Values.Laws.{each-tests}
+use Rattle.values.specs.Values.Tested.{tested-alike}
 use Rattle.room.specs.declared.table.Module.{Module}
-use Rattle.text.specs.Every.Laws.{both-left}
+use Rattle.text.specs.Every.Laws.{both-left, both-right}
 use Rattle.text.specs.Every.{every}
 use Rattle.text.specs.Cut.Part.{part-left}
 use Rattle.wish.specs.Target.{atMostOne, chosen, chosenPermitted, selectionRight, wantedRight}
+use Rattle.wish.specs.Target.Choice.{own-choice}
+
+-- each entry of a chosen module is tested by its row
+pub chosen-tests : (selection : List ℕ) → Tests (chosenPermitted selection) (λ p w. not (chosen selection p) || permitted (p .row) w)
+unfolding chosenPermitted
+chosen-tests selection = record { none = λ ws. refl; one = λ p ps w ws. refl }
 
 -- ---- one module: its entries are permitted, or it is not chosen
 
-module _ (selection : List ℕ) (m : Module) where
-  unchosen : (n : ℕ) (rs : List Row) (ws : List ℤ) → eqb (getD selection (m .number) 0) 1 ≡ false → chosenPermitted selection (numbered m n rs) ws ≡ true
-  unfolding numbered chosenPermitted chosen
-  unchosen n [] ws e = refl
-  unchosen n (r ∷ rs) [] e = refl
-  unchosen n (r ∷ rs) (w ∷ ws) e = rw e (unchosen (n + 1) rs ws e)
+untested : Tests (λ ps ws. true) (λ p w. true)
+untested = record { none = λ ws. refl; one = λ p ps w ws. refl }
 
-  its-own : (n : ℕ) (rs : List Row) (ws : List ℤ) → eqb (getD selection (m .number) 0) 1 ≡ true → chosenPermitted selection (numbered m n rs) ws ≡ rowsPermit rs ws
-  unfolding numbered chosenPermitted chosen rowsPermit
-  its-own n [] ws e = refl
-  its-own n (r ∷ rs) [] e = refl
-  its-own n (r ∷ rs) (w ∷ ws) e = rw e (ap (λ (b : Bool). permitted r w && b) (its-own (n + 1) rs ws e))
+module-right : (selection : List ℕ) (m : Module) (ws : List ℤ) → length (rowsOf (m .kind)) ≤ length ws
+    → chosenPermitted selection (parametersOf m) ws ≡ (not (eqb (getD selection (m .number) 0) 1) || rowsPermit (rowsOf (m .kind)) ws)
+module-right selection m ws l = go (eqb (getD selection (m .number) 0) 1) refl
+  where
+    long : length (parametersOf m) ≤ length ws
+    long = omega (arith, length-parametersOf m)
 
-  module-right : (ws : List ℤ) → chosenPermitted selection (parametersOf m) ws ≡ (not (eqb (getD selection (m .number) 0) 1) || rowsPermit (rowsOf (m .kind)) ws)
-  unfolding parametersOf
-  module-right ws = go (eqb (getD selection (m .number) 0) 1) refl
-    where
-      go : (b : Bool) → eqb (getD selection (m .number) 0) 1 ≡ b
-          → chosenPermitted selection (numbered m 0 (rowsOf (m .kind))) ws ≡ (not (eqb (getD selection (m .number) 0) 1) || rowsPermit (rowsOf (m .kind)) ws)
-      go true e = rw e (its-own 0 (rowsOf (m .kind)) ws e)
-      go false e = rw e (unchosen 0 (rowsOf (m .kind)) ws e)
+    go : (b : Bool) → eqb (getD selection (m .number) 0) 1 ≡ b
+        → chosenPermitted selection (parametersOf m) ws ≡ (not b || rowsPermit (rowsOf (m .kind)) ws)
+    go true e =
+        tested-alike (chosen-tests selection) each-tests m (λ p w o. rw (own-choice selection m p o, e)) (parametersOf m) ws (owned m) long
+        ∙ module-permit m ws
+    go false e = tested-alike (chosen-tests selection) untested m (λ p w o. rw (own-choice selection m p o, e)) (parametersOf m) ws (owned m) long
 
 pub module-unchosen : (selected : ℕ) (b : Bool) → (selected ≡ 1 → ⊥) → true ≡ (not (eqb selected 1) || b)
 module-unchosen selected b h = rw (ne-eqb selected 1 h)
@@ -58,10 +63,6 @@ pub ruleset one-module = (module-unchosen, module-chosen)
 
 -- ---- the walk: the entries of the records passed are right
 
-tests : (selection : List ℕ) → Tests (chosenPermitted selection)
-unfolding chosenPermitted
-tests selection = record { test = λ p w. not (chosen selection p) || permitted (p .row) w; none = λ ws. refl; one = λ p ps w ws. refl }
-
 pub record Wanting (t selection : List ℕ) (ws : List ℤ) (number place first : ℕ) : Type 0 where
   pub each : Each (chosenPermitted selection) t ws number place first
   pub bytes : length selection ≡ length (modules t)
@@ -69,6 +70,15 @@ pub record Wanting (t selection : List ℕ) (ws : List ℤ) (number place first 
 pub selection-long : (t selection : List ℕ) → selectionRight t selection ≡ true → length selection ≡ length (modules t)
 unfolding selectionRight
 selection-long t selection e = eqb-true (length selection) (length (modules t)) (both-left (eqb (length selection) (length (modules t))) (every atMostOne selection) e)
+
+pub wanted-long : (t selection : List ℕ) (ws : List ℤ) → wantedRight t selection ws ≡ true → length ws ≡ length (parameters t)
+unfolding wantedRight
+wanted-long t selection ws e =
+    eqb-true (length ws) (length (parameters t)) (both-left (eqb (length ws) (length (parameters t))) (chosenPermitted selection (parameters t) ws) e)
+
+pub wanted-each : (t selection : List ℕ) (ws : List ℤ) → wantedRight t selection ws ≡ true → chosenPermitted selection (parameters t) ws ≡ true
+unfolding wantedRight
+wanted-each t selection ws e = both-right (eqb (length ws) (length (parameters t))) (chosenPermitted selection (parameters t) ws) e
 
 pub wanting-start : (t selection : List ℕ) (ws : List ℤ) → sound t ≡ true → selectionRight t selection ≡ true → Wanting t selection ws 0 0 0
 wanting-start t selection ws e h = record { each = each-start (chosenPermitted selection) t ws e; bytes = selection-long t selection h }
@@ -87,15 +97,17 @@ module _ (t selection : List ℕ) (ws : List ℤ) (number place first : ℕ) (s 
       here : chosenPermitted selection (parametersOf (moduleHere t number place first)) (take rows (drop first ws)) ≡ b
       here =
           let d : first + rows - first ≡ rows = omega arith in
-          module-right selection (moduleHere t number place first) (take rows (drop first ws)) ∙ sym (rw d at f)
+          let long : length (rowsOf (getD t place 0)) ≤ length (take rows (drop first ws)) =
+          omega (arith, length-take rows (drop first ws), length-drop first ws) in
+          module-right selection (moduleHere t number place first) (take rows (drop first ws)) long ∙ sym (rw d at f)
 
       pub wanting-wrong : b ≡ false → false ≡ wantedRight t selection ws
       unfolding wantedRight
-      wanting-wrong h = each-wrong (chosenPermitted selection) t ws number place first (s .each) l rows n (tests selection) room b here h
+      wanting-wrong h = each-wrong (chosenPermitted selection) t ws number place first (s .each) l rows n (chosen-tests selection) room b here h
 
       wanting-next : (size : ℕ) → size ≡ bodyLength (getD t place 0) → b ≡ true → Wanting t selection ws (number + 1) (place + 1 + size) (first + rows)
       wanting-next size e h =
-          record { each = each-next (chosenPermitted selection) t ws number place first (s .each) l rows n (tests selection) room b here size e h; bytes = s .bytes }
+          record { each = each-next (chosenPermitted selection) t ws number place first (s .each) l rows n (chosen-tests selection) room b here size e h; bytes = s .bytes }
 
 -- the next record, where the test of this one did not fail
 pub wanting-on : (t selection : List ℕ) (ws : List ℤ) (number place first rows size : ℕ) (b : Bool) → Wanting t selection ws number place first → place < length t
@@ -108,6 +120,6 @@ wanting-on t selection ws number place first rows size b s l h e n room f =
 pub wanting-all : (t selection : List ℕ) (ws : List ℤ) (number place first : ℕ) → Wanting t selection ws number place first → length t ≤ place
     → eqb first (length ws) ≡ wantedRight t selection ws
 unfolding wantedRight
-wanting-all t selection ws number place first s l = each-all (chosenPermitted selection) (tests selection) t ws number place first (s .each) l
+wanting-all t selection ws number place first s l = each-all (chosenPermitted selection) (chosen-tests selection) t ws number place first (s .each) l
 
 pub ruleset wanting = (wanting-start, wanting-short, wanting-byte, wanting-wrong, wanting-on, wanting-all, part-left, not-true, not-false)

@@ -1,20 +1,20 @@
 -- The price of a list of changes as a potential: no line lowers it by more than its bytes and its 0D.
-use mathlib.Core.Path.{_≡_, refl, ap}
-use mathlib.Core.Bool.{Bool, true, false, cond}
+use mathlib.Core.Path.{_≡_, refl}
 use mathlib.Core.List.{List, [], _∷_}
 use Prim.Native.Nat.{ℕ, zero, suc, _+_, _≤_, _<_}
 use native.Mathlib.Omega.{arith}
 use lib.IntN.{ℤ, pos}
 use lib.ListN.{length, getD, set, length-append}
-use Rattle.values.specs.Parameters.{parameters, place, parameterAt}
+use Rattle.values.specs.Parameters.{parameters, place}
+use Rattle.values.specs.Parameters.Elements.{at-element}
 use Rattle.values.specs.declared.parameter.Parameter.{Parameter}
-use Rattle.values.specs.declared.parameter.ParameterFound.the-variants.{At}
 use Rattle.syntax.specs.Shape.{lineLimit}
 use Rattle.line.specs.Answer.{answer}
 use Rattle.serial_port.specs.Play.Laws.{Right}
-use Rattle.wish.specs.Listing.{Change, changesOf, lineOf, listing}
+use Rattle.wish.specs.Listing.{Change, listing}
+use Rattle.wish.specs.Listing.Differing.{Differ, none, other, same}
+use Rattle.wish.specs.Listing.Laws.{listing-first, listing-none}
 use Rattle.restore.specs.Demand.Lines.{price, Effect, nothing, puts, Lines}
-use Rattle.values.specs.Values.{equal}
 use Rattle.values.specs.Values.Laws.{equal-refl, values-many, at-inside}
 
 -- ---- a function of each value, summed
@@ -49,13 +49,12 @@ data Priced (t : List ℕ) (p : Parameter) (f : ℤ → ℕ) : Type 0 where
   priced : (x : ℤ) → f ≡ price t p x → Priced t p f
   unpriced : f ≡ free → Priced t p f
 
-price-at : (t : List ℕ) (ps : List Parameter) (xs : List ℤ) (k : ℕ) (p : Parameter) → parameterAt ps k ≡ At p
-    → Priced t p (getD (prices t ps xs) k free)
-unfolding prices parameterAt
-price-at t [] xs k p e = unpriced refl
-price-at t (q ∷ ps) [] k p e = unpriced refl
-price-at t (q ∷ ps) (x ∷ xs) zero p e = priced x (let s : q ≡ p = cc in ap (λ r. price t r x) s)
-price-at t (q ∷ ps) (x ∷ xs) (suc k) p e = price-at t ps xs k p e
+price-at : (t : List ℕ) (ps : List Parameter) (xs : List ℤ) (k : ℕ) (d : Parameter) → Priced t (getD ps k d) (getD (prices t ps xs) k free)
+unfolding prices
+price-at t [] xs k d = unpriced refl
+price-at t (p ∷ ps) [] k d = unpriced refl
+price-at t (p ∷ ps) (x ∷ xs) zero d = priced x refl
+price-at t (p ∷ ps) (x ∷ xs) (suc k) d = price-at t ps xs k d
 
 -- nothing is left to pay where the target is reached
 pub price-reached : (t : List ℕ) (ps : List Parameter) (xs : List ℤ) → total (prices t ps xs) xs ≡ 0
@@ -65,24 +64,13 @@ price-reached t (p ∷ ps) [] = refl
 price-reached t (p ∷ ps) (x ∷ xs) = rw (equal-refl x) (omega (arith, price-reached t ps xs))
 
 -- the list costs what its bytes are
-pub price-listing : (t : List ℕ) (ps : List Parameter) (vs xs : List ℤ) → total (prices t ps xs) vs ≡ length (listing t (changesOf ps vs xs))
-unfolding total prices price changesOf listing lineOf
-price-listing t [] vs xs = refl
-price-listing t (p ∷ ps) [] [] = refl
-price-listing t (p ∷ ps) [] (x ∷ xs) = refl
-price-listing t (p ∷ ps) (v ∷ vs) [] = refl
-price-listing t (p ∷ ps) (v ∷ vs) (x ∷ xs) = go (equal v x) refl (price-listing t ps vs xs)
-  where
-    c : Change
-    c = record { parameter = p; present = v; target = x }
-
-    cs : List Change
-    cs = changesOf ps vs xs
-
-    go : (b : Bool) → equal v x ≡ b → total (prices t ps xs) vs ≡ length (listing t cs)
-        → price t p x v + total (prices t ps xs) vs ≡ length (listing t (cond (equal v x) cs (c ∷ cs)))
-    go true q e = rw q (omega arith)
-    go false q e = rw q (simp length-append (omega arith))
+pub price-listing : (t : List ℕ) {ps : List Parameter} {vs xs : List ℤ} {cs : List Change} → Differ ps vs xs cs
+    → total (prices t ps xs) vs ≡ length (listing t cs)
+unfolding total prices price
+price-listing t none = rw (listing-none t) refl
+price-listing t (same p v d) = rw (equal-refl v) (omega (arith, price-listing t d))
+price-listing t (other p v x {cs = cs} n d) =
+    rw (n, listing-first t (record { parameter = p; present = v; target = x }) cs) (simp length-append (omega (arith, price-listing t d)))
 
 -- what is left to pay on the way to the target xs
 abbrev pub potential : (table : List ℕ) → (target : List ℤ) → List ℤ → ℕ
@@ -106,4 +94,5 @@ module _ (t : List ℕ) (lines : Lines t) (xs : List ℤ) where
       go (puts p x s e c) =
           let here = at-inside (parameters t) (place p) p (s .listed) in
           let changes = total-set fs vs (place p) x (omega (arith, values-many t vs r)) in
-          rw e (omega (arith, changes, cost p x c (price-at t (parameters t) xs (place p) p (s .listed))))
+          let is = at-element (parameters t) (place p) p p (s .listed) in
+          rw e (omega (arith, changes, cost p x c (rw is at (price-at t (parameters t) xs (place p) p))))

@@ -10,7 +10,6 @@ use Rattle.text.specs.Cut.Lacking.{has-not}
 use Rattle.catalogue.specs.Row.{permitted}
 use Rattle.room.specs.Table.{sound}
 use Rattle.values.specs.Parameters.{place}
-use Rattle.values.specs.Parameters.Places.{at-place}
 use Rattle.values.specs.declared.parameter.Parameter.{Parameter}
 use Rattle.syntax.specs.Shape.{lineLimit}
 use Rattle.line.specs.Meaning.{meaning}
@@ -62,4 +61,4 @@ module _ (t : List ℕ) (is-sound : sound t ≡ true) where
       record { bytes = said .bytes; whole = has-not 0x0D l (said .whole); fits = omega (arith, said .short); answered = λ vs. said-answer t vs p x l said }
 
   pub promise : Lines t
-  promise = record { placed = λ k p e. at-place t k p e .stands; effect = effects; says = saying }
+  promise = record { effect = effects; says = saying }
