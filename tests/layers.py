@@ -17,6 +17,7 @@ OPEN = [
     ("text Every.every", "catalogue/specs/Catalogue/*", "a test computed over the constant catalogue"),
     ("text Every.pairs", "catalogue/specs/Catalogue/*", "a test computed over the constant catalogue"),
     ("syntax Shape.lineLimit", "*", "a limit: 64 bytes of a line"),
+    ("serial_port Refusal.replyLimit", "*", "a limit: 64 bytes of a reply buffer"),
 ]
 
 root = pathlib.Path(sys.argv[1] if len(sys.argv) > 1 else pathlib.Path(__file__).parent.parent).resolve()

@@ -1,137 +1,100 @@
-// A script played on a room: lines, each with its 0D and then the reply that it must get.
+// A script played on a room: lines, each with its 0D, and behind each the reply that it must get. All go through one port, call after call.
+use crate::compare::same_bytes;
 use catalogue::table::all_rows;
 use room::table::is_sound;
 use serial_port::port::Port;
 use text::cut::find;
-use values::parameter::parameter_count;
 use values::starts::fill_starts;
+ghost use mathlib.Core.Bool.{true};
+ghost use mathlib.Core.Path.{_≡_};
+ghost use Prim.Native.Nat.{_≤_};
+ghost use lib.ListN.{length};
+ghost use Rattle.room.specs.Table.{sound};
+ghost use Rattle.values.specs.Values.{valuesSound};
+ghost use Rattle.worked.specs.Script.{Plays, outcome, tally, told};
+ghost use Rattle.worked.specs.Script.{through as Script·through};
 
-// How many lines were played, and the number of the first wrong answer, from 1, or 0.
+// How many lines, from the first on, were answered as the script says, and where it goes on behind them: its end where all were.
 pub struct Tally {
-    pub lines: usize,
-    pub wrong: usize,
+    pub right: usize,
+    pub at: usize,
 }
 
-// Where the script goes on behind a line and its reply, and whether the answer was the reply.
-struct Played {
-    at: usize,
-    right: bool,
+// The port after a line, how many bytes the line and the reply that the script says have, and whether the answer was that reply.
+pub struct Played {
+    pub port: Port,
+    pub passed: usize,
+    pub right: bool,
 }
 
-// The first n bytes, or all where there are fewer.
-fn front(s: &[u8], n: usize) -> &[u8] {
-    if n <= s.len() { &s[..n] } else { s }
-}
-
-// Reads a file of this folder into the buffer.
-fn read_file(name: &[u8], buffer: &mut [u8]) -> usize {
-    let fd = os::open_read(name);
-    if fd < 0 {
-        return 0;
+// The bytes through the first 0D: all, where there is none.
+fn through(s: &[u8]) -> &[u8]
+    ensures { λ r. ⌜ now r ≡ Script·through (now (s .entry)) ⌝ }
+{
+    let end = find(s, 0x0D);
+    if end == s.len() {
+        return s;
     }
-    let n = io::read_full(fd, buffer);
-    libc::close(fd);
-    n
-}
-
-// Where a line's reply ends, which stands in the script behind the line; 0 where it has no end.
-fn reply_end(script: &[u8], line: usize) -> usize {
-    if script.len() < line {
-        return 0;
-    }
-    let left = script.len() - line;
-    let reply = find(&script[line..], 0x0D);
-    if left <= reply {
-        return 0;
-    }
-    line + reply + 1
-}
-
-// The bytes from a place up to another, none where there is no such part.
-fn between(s: &[u8], a: usize, e: usize) -> &[u8] {
-    if s.len() < e {
-        return &s[..0];
-    }
-    if e < a {
-        return &s[..0];
-    }
-    &s[a..e]
+    &s[..end + 1]
 }
 
 // Plays the first line of a script.
-fn play_line(table: &[u8], values: &mut [i64], script: &[u8]) -> Played {
-    let mut reply = [0u8; 64];
-    let called = Port::fresh().take(table, values, script, &mut reply);
+fn play_line(table: &[u8], values: &mut [i64], port: Port, script: &[u8]) -> Played
+    requires { ⌜ (sound (now table) ≡ true) × (valuesSound (now table) (now values) ≡ true) × (port .len ≤ 64) ⌝ }
+    ensures { λ r. ⌜ Plays (now (table .entry)) (now (values .entry)) port (now (script .entry)) r (now (values .exit)) ⌝ }
+{
+    let mut reply = [0u8; Port::REPLY];
+    let called = port.take(table, values, script, &mut reply);
     let line = called.consumed;
-    let length = called.sent;
-    let end = reply_end(script, line);
-    let right = check::same(front(&reply, length), between(script, line, end));
-    Played { at: end, right }
+    let sent = called.sent;
+    let must = through(&script[line..]);
+    let right = same_bytes(&reply[..sent], must);
+    let after = called.port;
+    Played {
+        port: after,
+        passed: line + must.len(),
+        right,
+    }
 }
 
-// Plays a script on a table, from the values given.
-fn play(table: &[u8], values: &mut [i64], script: &[u8]) -> Tally {
+// Plays a script line by line, up to the first wrong answer.
+fn play_lines(table: &[u8], values: &mut [i64], script: &[u8]) -> Tally
+    requires { ⌜ (sound (now table) ≡ true) × (valuesSound (now table) (now values) ≡ true) ⌝ }
+    ensures { λ r. ⌜ told r (now (values .exit)) ≡ outcome (now (table .entry)) (now (values .entry)) (now (script .entry)) ⌝ }
+{
+    let mut port = Port::fresh();
     let mut at = 0;
-    let mut lines = 0;
+    let mut right = 0;
     while at < script.len() {
-        let next = play_line(table, values, &script[at..]);
-        lines += 1;
-        let passed = next.at;
-        let right = next.right;
-        if passed == 0 {
-            return Tally {
-                lines,
-                wrong: lines,
-            };
+        let played = play_line(table, values, port, &script[at..]);
+        if !played.right {
+            return Tally { right, at };
         }
-        if script.len() - at < passed {
-            return Tally {
-                lines,
-                wrong: lines,
-            };
-        }
-        if !right {
-            return Tally {
-                lines,
-                wrong: lines,
-            };
-        }
-        at += passed;
+        port = played.port;
+        at += played.passed;
+        right += 1;
     }
-    Tally { lines, wrong: 0 }
+    Tally { right, at }
 }
 
-// Plays a room: the table and the script of the files named. A table that is not sound counts as a wrong first line.
-pub(crate) fn play_room(table: &[u8], script: &[u8]) -> Tally {
-    let mut space = [0u8; 2112];
-    let n = read_file(table, &mut space);
-    let records = front(&space, n);
-    let mut text = [0u8; 8192];
-    let m = read_file(script, &mut text);
-    let mut values = [0i64; 2112];
-    let count = start(records, &mut values);
-    play_first(records, &mut values, count, front(&text, m))
+// As many values as a table may have: 33 rows for each of its modules.
+const VALUES: usize = Port::MODULES * 33;
+
+fn value_list() -> [i64; VALUES]
+    ensures { λ r. ⌜ 2112 ≡ length r ⌝ }
+{
+    [0; VALUES]
 }
 
-// Plays a script over the first values of a list.
-fn play_first(table: &[u8], values: &mut [i64], count: usize, script: &[u8]) -> Tally {
-    if count == 0 {
-        return Tally { lines: 0, wrong: 1 };
-    }
-    if values.len() < count {
-        return Tally { lines: 0, wrong: 1 };
-    }
-    play(table, &mut values[..count], script)
-}
-
-// Puts the start values of a table, and tells how many they are: 0 where the table is not sound or the list too short.
-fn start(table: &[u8], values: &mut [i64]) -> usize {
+// Plays a script on a table, from its start values on.
+pub(crate) fn play_script(table: &[u8], script: &[u8]) -> Tally
+    ensures { λ r. ⌜ r ≡ tally (now (table .entry)) (now (script .entry)) ⌝ }
+{
     if !is_sound(table) {
-        return 0;
-    }
-    if values.len() < parameter_count(table) {
-        return 0;
+        return Tally { right: 0, at: 0 };
     }
     let rows = all_rows();
-    fill_starts(table, &rows, values)
+    let mut space = value_list();
+    let count = fill_starts(table, &rows, &mut space);
+    play_lines(table, &mut space[..count], script)
 }

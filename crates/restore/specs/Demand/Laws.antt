@@ -142,3 +142,8 @@ module _ {w : Wish} {buffer : List ℕ} {r : Restored} {buffer′ : List ℕ} wh
 
   pub demand-by : Restores w buffer r buffer′ → DemandThree w (length buffer) (tells r buffer′)
   demand-by (restores told demand) = demand
+
+  -- what is told, written out
+  pub parts-by : Restores w buffer r buffer′ → record { number = r .number; bytes = r .bytes; lines = r .lines; buffer = buffer′ } ≡ restore w buffer
+  unfolding tells
+  parts-by (restores told demand) = told

@@ -1,18 +1,20 @@
--- The start values are right for their table: at most 2,112, one for each parameter, and each permitted for its row.
-use mathlib.Core.Path.{_≡_, refl}
+-- The start values are right for their table: at most 2,112, one for each parameter, and each permitted for its row. So is a list that they were put into.
+use mathlib.Core.Path.{_≡_, refl, sym, ap}
 use mathlib.Core.Bool.{true}
 use mathlib.Core.List.{List, [], _∷_}
 use Prim.Native.Nat.{ℕ, suc, _≤_}
 use native.Mathlib.Omega.{arith}
 use borrow.Author.Tests.{eq-eqb}
-use lib.ListN.{length}
+use lib.IntN.{ℤ}
+use lib.ListN.{length, take, drop, length-append}
+use lib.Seq.{take-at}
 use Rattle.catalogue.specs.Catalogue.Starts.{catalogue-starts, startRight}
 use Rattle.values.specs.Parameters.{parameterAt, parameters}
 use Rattle.values.specs.Parameters.Each.{every-parameter}
 use Rattle.room.specs.Table.{sound}
 use Rattle.values.specs.Values.{eachPermitted, valuesSound}
 use Rattle.values.specs.Values.Few.{parameters-few}
-use Rattle.values.specs.Starts.{starts, startsOf}
+use Rattle.values.specs.Starts.{Started, starts, startsOf}
 use Rattle.values.specs.Starts.Filling.{length-starts}
 use Rattle.values.specs.declared.parameter.Parameter.{Parameter}
 use Rattle.values.specs.declared.parameter.ParameterFound.the-variants.{At}
@@ -32,3 +34,21 @@ unfolding valuesSound
 starts-right t =
     let each : eachPermitted (parameters t) (starts t) ≡ true = unfold starts in each-start (parameters t) (every-parameter startRight catalogue-starts t) in
     rw (eq-eqb (length (starts t)) (length (parameters t)) (length-starts t)) each
+
+-- ---- a list that they were put into
+
+-- there is room for every start value
+pub starts-room : (t : List ℕ) (l : List ℤ) → sound t ≡ true → 2112 ≡ length l → length (starts t) ≤ length l
+starts-room t l s e = omega (arith, starts-few t s)
+
+module _ (t : List ℕ) (before : List ℤ) (n : ℕ) (after : List ℤ) (s : Started t before n after) where
+  pub started-first : take n after ≡ starts t
+  started-first = rw (s .list) (take-at (starts t) (drop (length (starts t)) before) n (sym (s .count)))
+
+  pub started-within : n ≤ length after
+  started-within = omega (arith, s .count, ap length (s .list), length-append (starts t) (drop (length (starts t)) before))
+
+  pub started-right : valuesSound t (take n after) ≡ true
+  started-right = rw started-first (starts-right t)
+
+pub ruleset started = (starts-room, started-within, started-right)

@@ -1,2 +1,0 @@
--- The rules that belong to no one function.
-pub mod Rules

@@ -1,0 +1,20 @@
+// Comparing byte sequences.
+ghost use mathlib.Core.Path.{_≡_};
+ghost use Rattle.room.specs.Label.{same};
+
+// Whether two byte sequences are the same.
+pub(crate) fn same_bytes(a: &[u8], b: &[u8]) -> bool
+    ensures { λ r. ⌜ r ≡ same (now (a .entry)) (now (b .entry)) ⌝ }
+{
+    if a.len() != b.len() {
+        return false;
+    }
+    let mut i = 0;
+    while i < a.len() {
+        if a[i] != b[i] {
+            return false;
+        }
+        i += 1;
+    }
+    true
+}
