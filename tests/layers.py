@@ -18,6 +18,7 @@ OPEN = [
     ("text Every.pairs", "catalogue/specs/Catalogue/*", "a test computed over the constant catalogue"),
     ("syntax Shape.lineLimit", "*", "a limit: 64 bytes of a line"),
     ("serial_port Refusal.replyLimit", "*", "a limit: 64 bytes of a reply buffer"),
+    ("room Table.recordLimit", "*", "a limit: 64 records of a table"),
 ]
 
 root = pathlib.Path(sys.argv[1] if len(sys.argv) > 1 else pathlib.Path(__file__).parent.parent).resolve()

@@ -6,15 +6,18 @@ use spelling::acknowledgement::put_nak;
 use text::cut::find;
 use text::written::put_bytes;
 ghost use mathlib.Core.Bool.{true};
+ghost use mathlib.Core.List.{[], _∷_};
 ghost use mathlib.Core.Path.{_≡_};
 ghost use Prim.Native.Nat.{_≤_};
 ghost use lib.ListN.{length};
 ghost use Rattle.catalogue.specs.Catalogue.{numbers};
-ghost use Rattle.room.specs.Table.{sound};
+ghost use Rattle.room.specs.Table.{recordLimit, sound};
+ghost use Rattle.syntax.specs.Shape.{lineLimit};
 ghost use Rattle.values.specs.Values.{valuesSound};
 ghost use Rattle.serial_port.specs.Call.{Answers};
 ghost use Rattle.serial_port.specs.Call.Finishing.{Finishes};
 ghost use Rattle.serial_port.specs.Port.{fresh, view};
+ghost use Rattle.serial_port.specs.Refusal.{replyLimit};
 ghost use Rattle.serial_port.specs.Port.Collecting.{Collects};
 
 // The bytes of the unfinished line, how many they are, and whether the line has overrun.
@@ -39,6 +42,13 @@ impl Port {
     pub const REPLY: usize = crate::refusal::REPLY;
 
     pub const MODULES: usize = room::table::MODULES;
+
+    // The three limits, for a caller that sizes its buffers: bytes held, bytes of a reply buffer, modules of a table.
+    pub fn limits() -> [usize; 3]
+        ensures { λ r. ⌜ r ≡ lineLimit ∷ replyLimit ∷ recordLimit ∷ [] ⌝ }
+    {
+        [Port::HELD, Port::REPLY, Port::MODULES]
+    }
 
     // The port that holds nothing; what is stored past the held bytes is left open.
     pub fn fresh() -> Port
