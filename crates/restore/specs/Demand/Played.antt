@@ -9,8 +9,7 @@ use lib.ListN.{length, set}
 use Rattle.text.specs.Byte.{isByte}
 use Rattle.text.specs.Byte.Laws.{is-byte}
 use Rattle.text.specs.Every.{every}
-use Rattle.text.specs.Every.Laws.{every-append}
-use Rattle.text.specs.Every.Steps.{every-more, every-none}
+use Rattle.text.specs.Every.Laws.{every-append, every-more, every-nil}
 use Rattle.values.specs.Parameters.{place}
 use Rattle.spelling.specs.Say.{say}
 use Rattle.line.specs.Answer.{answer}
@@ -29,7 +28,7 @@ module _ (t : List ℕ) (lines : Lines t) where
   saying c s = lines .says (c .parameter) (c .present) (c .target) (reached-settable t (c .parameter) (s .reached)) (s .permits)
 
   pub listing-bytes : (cs : List Change) → AllOf (Sayable t) cs → every isByte (listing t cs) ≡ true
-  listing-bytes [] s = rw (listing-none t) (every-none isByte)
+  listing-bytes [] s = rw (listing-none t) (every-nil isByte)
   listing-bytes (c ∷ cs) s =
       rw (listing-first t c cs)
       (every-append isByte (say t (c .parameter) (c .present) (c .target)) (0x0D ∷ listing t cs) (saying c (s .0) .bytes)
