@@ -66,11 +66,8 @@ def refusals(edit):
             places.setdefault(name, LAW)
         elif "/proofs/" in file:
             places.setdefault(pathlib.Path(file).parent.name.removeprefix("+"), goal_place(name, words))
-    for function, words in re.findall(r"^fn \S*?(\w+): (not proved$|no proof: .*)", log, re.M):
-        if need := re.search(r"does not close `([\w-]+)`", words):
-            places[function] = need_place(need[1])
-        else:
-            places.setdefault(function, SIDE)
+    for function, need in re.findall(r"^fn \S*?(\w+): (?:not proved$|no proof: .*does not close `([\w-]+)`)", log, re.M):
+        places.setdefault(function, need_place(need) if need else SIDE)
     return places
 
 

@@ -7,7 +7,6 @@ use record::body::body_length;
 use room::label::label_length;
 use room::table::Module;
 ghost use mathlib.Core.Path.{_≡_};
-ghost use Prim.Native.Nat.{_+_};
 ghost use lib.ListN.{length};
 ghost use Rattle.catalogue.specs.Catalogue.{numbers};
 ghost use Rattle.room.specs.Label.{label};

@@ -3,7 +3,7 @@ use crate::digit::digit_of;
 use crate::digit::is_digit;
 use crate::written::put_byte;
 ghost use mathlib.Core.Path.{_≡_};
-ghost use Prim.Native.Nat.{_+_, _<_, _≤_};
+ghost use Prim.Native.Nat.{_+_, _≤_};
 ghost use lib.ListN.{length};
 ghost use Rattle.text.specs.Number.{readNumber};
 ghost use Rattle.text.specs.Digits.{digits};
