@@ -110,5 +110,5 @@ for name in told - {name for _, name in found}:
 
 for words in faults:
     print(f"FAILED: {words}")
-print(f"refusals: {len(found)} wrong programs in {len(edits)} edits, each at its promise; {len(faults)} faults" if not faults else f"refusals: {len(faults)} faults")
+print(f"refusals: {len(found)} wrong programs in {len(edits)} edits, each refused where it must be; {len(faults)} faults" if not faults else f"refusals: {len(faults)} faults")
 sys.exit(bool(faults) or not edits)
