@@ -49,7 +49,7 @@ pub fn named(rows: &[[i32; 8]; 50], m: Module, indices: Indices) -> ParameterFou
 }
 
 // How many parameters a table has.
-pub fn parameter_count(table: &[u8]) -> usize
+pub(crate) fn parameter_count(table: &[u8]) -> usize
     requires { ⌜ sound (now table) ≡ true ⌝ }
     ensures { λ r. ⌜ r ≡ length (parameters (now (table .entry))) ⌝ }
 {

@@ -1,4 +1,5 @@
 -- A script: lines, each with its 0D, and behind each the reply that it must get. All go through one port, call after call.
+pub mod Comparing
 pub mod Cutting
 pub mod Laws
 pub mod Playing

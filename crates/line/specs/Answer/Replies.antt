@@ -18,7 +18,8 @@ use Rattle.line.specs.Meaning.{meaning}
 use Rattle.line.specs.Meaning.Laws.{Gets, names-label, get-told}
 use Rattle.spelling.specs.Reply.{getReply}
 use Rattle.spelling.specs.Acknowledgement.Laws.{ack-length, nak-length}
-use Rattle.line.specs.Told.{Told, reply-told}
+use Rattle.line.specs.Told.{Told}
+use Rattle.line.specs.Told.Laws.{reply-told}
 use Rattle.line.specs.Answer.{act, answer}
 use Rattle.line.specs.Answer.Laws.{Effect, refused, told, put, gets-place, answered, effect}
 use Rattle.line.specs.declared.meaning.Meaning.the-variants.{Get}

@@ -2,7 +2,7 @@
 use Prim.Native.Nat.{_-_}
 use borrow.Author.Needs.{needs}
 use lib.ListN.{length}
-use Rattle.worked.specs.Comparing.{Alike, comparing}
+use Rattle.worked.specs.Script.Comparing.{Alike, comparing}
 use Rattle.worked.proofs.compare.same_bytes.Statement.{statement}
 use Rattle.worked.proofs.compare.same_bytes.Tie as tie
 
