@@ -15,12 +15,13 @@ use Rattle.catalogue.specs.Catalogue.{minus, level, switch, number, catalogue, 
 use Rattle.text.specs.Every.{every}
 use Rattle.text.specs.Every.Laws.{every-append, every-both}
 use Rattle.catalogue.specs.Row.{permitted}
-use Rattle.room.specs.Table.{recordsSound, recordLimit, sound, modulesFrom, modules}
+use Rattle.room.specs.Refusal.{firstRefusal}
+use Rattle.room.specs.Table.{recordsSound, recordLimit, sound, tableNumber, modulesFrom, modules}
 use Rattle.record.specs.Body.{bodyLength, bodySound}
 use Rattle.record.specs.Field.{labelByte, labelRight, isZero, fieldSound}
 use Rattle.room.specs.Label.{label, same, bearersIn, exactlyOne, bearer}
 use Rattle.values.specs.Parameters.{numbered, parametersOf, parametersIn, parameters}
-use Rattle.values.specs.Values.{eachPermitted, valuesSound, equal}
+use Rattle.values.specs.Values.{eachPermitted, valuesSound, valuesNumber, equal}
 use Rattle.spelling.specs.Name.{name}
 use Rattle.spelling.specs.IndexText.{indexText}
 use Rattle.spelling.specs.Say.{say}
@@ -28,7 +29,7 @@ use Rattle.spelling.specs.Text.{textOf}
 use Rattle.line.specs.Worked as reading
 use Rattle.line.specs.Worked.{oneByteRecord, tableA, zeros, bytes}
 use Rattle.wish.specs.Target.{atMostOne, selectionRight, chosen, chosenPermitted, wantedRight, targetOf, target}
-use Rattle.wish.specs.Listing.{changesOf, changes, lineOf, listing, borneOnce, reachable, allReachable, wishNumber, testNumber, listNumber, firstOf, restoreNumber, Told, tell, restore}
+use Rattle.wish.specs.Listing.{changesOf, changes, lineOf, listing, borneOnce, reachable, allReachable, selectionNumber, wantedNumber, reachNumber, spaceNumber, restoreNumber, Told, tell, restore}
 
 -- a restore call: the modules chosen, the wanted values, and the buffer's length; what it tells, and the lines that it writes
 pub record Case : Type 0 where
@@ -90,7 +91,8 @@ unfolding shown agrees called lists four wishes ended bytes tableA oneByteRecord
     labelByte labelRight isZero fieldSound bodyLength bodySound recordsSound recordLimit sound modulesFrom modules
     label same bearersIn exactlyOne bearer numbered parametersOf parametersIn parameters eachPermitted valuesSound
     indexText name textOf say atMostOne selectionRight chosen chosenPermitted wantedRight targetOf target equal
-    changesOf changes lineOf listing borneOnce reachable allReachable wishNumber testNumber listNumber firstOf restoreNumber tell restore
+    changesOf changes lineOf listing borneOnce reachable allReachable
+    firstRefusal tableNumber valuesNumber selectionNumber wantedNumber reachNumber spaceNumber restoreNumber tell restore
 lists-shown = refl
 
 lines-shown : (cs : List reading.Case) → every reading.answered cs ≡ true → every shown (map line cs) ≡ true

@@ -3,8 +3,8 @@ use catalogue::table::all_rows;
 use restore_list::list::write;
 use restore_list::measure::measure;
 use restore_list::module_measuring::Measured;
-use room::table::is_sound;
-use values::are_sound;
+use room::table::check;
+use values::values_number;
 use wish::selection_right;
 use wish::wanted_right;
 ghost use Rattle.catalogue.specs.Catalogue.{numbers};
@@ -12,7 +12,8 @@ ghost use mathlib.Core.Bool.{true};
 ghost use mathlib.Core.Path.{_≡_};
 ghost use Rattle.room.specs.Table.{sound};
 ghost use Rattle.restore.specs.Demand.{Restores};
-ghost use Rattle.wish.specs.Listing.{Admitted, testNumber, wishNumber};
+ghost use Rattle.wish.specs.Listing.{Admitted, selectionNumber, testNumber, wantedNumber};
+ghost use Rattle.wish.specs.Target.{selectionRight};
 
 // The bytes and the lines written, and the number of a refusal or 0.
 pub struct Restored {
@@ -60,14 +61,22 @@ fn list_changes(
     }
 }
 
-// The tests of the wish: 5 or 6 where one fails, or 0.
-fn failed_wish(table: &[u8], rows: &[[i32; 8]; 50], selection: &[u8], wanted: &[i64]) -> u8
-    requires { ⌜ (sound (now table) ≡ true) × (now rows ≡ numbers) ⌝ }
-    ensures { λ r. ⌜ r ≡ wishNumber (now (table .entry)) (now (selection .entry)) (now (wanted .entry)) ⌝ }
+// 5 where the selection is wrong, or 0.
+fn selection_number(table: &[u8], selection: &[u8]) -> u8
+    requires { ⌜ sound (now table) ≡ true ⌝ }
+    ensures { λ r. ⌜ r ≡ selectionNumber (now (table .entry)) (now (selection .entry)) ⌝ }
 {
-    if !selection_right(table, selection) {
-        return 5;
+    if selection_right(table, selection) {
+        return 0;
     }
+    5
+}
+
+// 6 where the wanted list is wrong, or 0.
+fn wanted_number(table: &[u8], rows: &[[i32; 8]; 50], selection: &[u8], wanted: &[i64]) -> u8
+    requires { ⌜ (sound (now table) ≡ true) × (now rows ≡ numbers) × (selectionRight (now table) (now selection) ≡ true) ⌝ }
+    ensures { λ r. ⌜ r ≡ wantedNumber (now (table .entry)) (now (selection .entry)) (now (wanted .entry)) ⌝ }
+{
     if !wanted_right(table, rows, selection, wanted) {
         return 6;
     }
@@ -85,13 +94,19 @@ fn failed_test(
     requires { ⌜ now rows ≡ numbers ⌝ }
     ensures { λ r. ⌜ r ≡ testNumber (record { table = now (table .entry); present = now (present .entry); selection = now (selection .entry); wanted = now (wanted .entry) }) ⌝ }
 {
-    if !is_sound(table) {
-        return 1;
+    let of_table = check(table);
+    if of_table != 0 {
+        return of_table;
     }
-    if !are_sound(table, rows, present) {
-        return 2;
+    let of_values = values_number(table, rows, present);
+    if of_values != 0 {
+        return of_values;
     }
-    failed_wish(table, rows, selection, wanted)
+    let of_selection = selection_number(table, selection);
+    if of_selection != 0 {
+        return of_selection;
+    }
+    wanted_number(table, rows, selection, wanted)
 }
 
 // Writes the shortest list that brings the chosen modules to their wanted values, or refuses and writes nothing.

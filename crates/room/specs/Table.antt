@@ -1,6 +1,7 @@
 -- The module table: records of one byte of kind and a body whose length the kind fixes.
 pub mod Checked
 pub mod Modules
+pub mod Number
 pub mod Reached
 pub mod Walk
 use mathlib.Core.Bool.{Bool, true, false, cond, _&&_}

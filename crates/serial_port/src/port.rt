@@ -139,7 +139,7 @@ impl Port {
         }
     }
 
-    // A call: refused with the lowest number that applies, or served.
+    // A call: refused with the first number that applies in its order, or served.
     pub fn take(self, table: &[u8], values: &mut [i64], given: &[u8], reply: &mut [u8]) -> Called
         ensures { λ r. ⌜ Answers (now (table .entry)) (now (values .entry)) self (now (given .entry)) (now (reply .entry)) r (now (values .exit)) (now (reply .exit)) ⌝ }
     {

@@ -3,8 +3,9 @@ pub mod Each
 pub mod Few
 pub mod Fitting
 pub mod Laws
+pub mod Number
 pub mod Tested
-use mathlib.Core.Bool.{Bool, true, false, _&&_}
+use mathlib.Core.Bool.{Bool, true, false, cond, _&&_}
 use mathlib.Core.List.{List, [], _∷_}
 use Prim.Native.Nat.{ℕ}
 use lib.Dec.{eqb}
@@ -30,3 +31,7 @@ equal (negsuc m) (negsuc n) = eqb m n
 -- as many values as parameters, and each is one that its row permits, whether or not a line may set it
 unfoldable pub valuesSound : List ℕ → List ℤ → Bool
 valuesSound t vs = eqb (length vs) (length (parameters t)) && eachPermitted (parameters t) vs
+
+-- 2 the values are wrong
+unfoldable pub valuesNumber : (table : List ℕ) → List ℤ → ℕ
+valuesNumber t vs = cond (valuesSound t vs) 0 2

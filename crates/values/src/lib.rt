@@ -10,10 +10,10 @@ ghost use mathlib.Core.Bool.{true};
 ghost use mathlib.Core.Path.{_≡_};
 ghost use Rattle.catalogue.specs.Catalogue.{numbers};
 ghost use Rattle.room.specs.Table.{sound};
-ghost use Rattle.values.specs.Values.{valuesSound};
+ghost use Rattle.values.specs.Values.{valuesNumber, valuesSound};
 
 // Whether a list has one entry for each parameter, and each is permitted.
-pub fn are_sound(table: &[u8], rows: &[[i32; 8]; 50], values: &[i64]) -> bool
+fn are_sound(table: &[u8], rows: &[[i32; 8]; 50], values: &[i64]) -> bool
     requires { ⌜ (sound (now table) ≡ true) × (now rows ≡ numbers) ⌝ }
     ensures { λ r. ⌜ r ≡ valuesSound (now (table .entry)) (now (values .entry)) ⌝ }
 {
@@ -36,4 +36,15 @@ pub fn are_sound(table: &[u8], rows: &[[i32; 8]; 50], values: &[i64]) -> bool
         first = end;
     }
     first == values.len()
+}
+
+// The number that a call on a list tells: 0 for a right one, and else its refusal's number.
+pub fn values_number(table: &[u8], rows: &[[i32; 8]; 50], values: &[i64]) -> u8
+    requires { ⌜ (sound (now table) ≡ true) × (now rows ≡ numbers) ⌝ }
+    ensures { λ r. ⌜ r ≡ valuesNumber (now (table .entry)) (now (values .entry)) ⌝ }
+{
+    if are_sound(table, rows, values) {
+        return 0;
+    }
+    2
 }

@@ -18,10 +18,11 @@ use lib.Dec.{leb}
 use lib.IntN.{ℤ}
 use lib.ListN.{length}
 use lib.Seq.{sets}
-use Rattle.room.specs.Table.{sound}
+use Rattle.room.specs.Refusal.{firstRefusal}
+use Rattle.room.specs.Table.{sound, tableNumber}
 use Rattle.room.specs.Label.{label, bearer}
 use Rattle.values.specs.Parameters.{parameters}
-use Rattle.values.specs.Values.{valuesSound, equal}
+use Rattle.values.specs.Values.{valuesNumber, valuesSound, equal}
 use Rattle.values.specs.declared.parameter.Parameter.{Parameter}
 use Rattle.room.specs.declared.label.Bearer.{Bearer}
 use Rattle.room.specs.declared.label.Bearer.the-variants.{Only, NotOne}
@@ -69,13 +70,42 @@ unfoldable pub allReachable : (table : List ℕ) → List Change → Bool
 allReachable t [] = true
 allReachable t (c ∷ cs) = reachable t (c .parameter) && allReachable t cs
 
--- 5 the selection is wrong, 6 the wanted list is wrong
-unfoldable pub wishNumber : (table selection : List ℕ) → (wanted : List ℤ) → ℕ
-wishNumber t selection ws = cond (selectionRight t selection) (cond (wantedRight t selection ws) 0 6) 5
+-- 5 the selection is wrong
+unfoldable pub selectionNumber : (table selection : List ℕ) → ℕ
+selectionNumber t selection = cond (selectionRight t selection) 0 5
 
--- 1 the table is not sound, 2 the values are wrong, then 5 and 6
+-- 6 the wanted list is wrong
+unfoldable pub wantedNumber : (table selection : List ℕ) → (wanted : List ℤ) → ℕ
+wantedNumber t selection ws = cond (wantedRight t selection ws) 0 6
+
+-- 7 a wanted change is beyond reach
+unfoldable pub reachNumber : (table : List ℕ) → List Change → ℕ
+reachNumber t cs = cond (allReachable t cs) 0 7
+
+-- 8 the list is longer than its buffer
+unfoldable pub spaceNumber : (table : List ℕ) → (room : ℕ) → List Change → ℕ
+spaceNumber t room cs = cond (leb (length (listing t cs)) room) 0 8
+
+-- what is tested before the list: 1 the table is not sound, 2 the values are wrong, then 5 and 6
+abbrev pub tests : Wish → List ℕ
+tests w =
+    tableNumber (w .table) ∷ valuesNumber (w .table) (w .present) ∷ selectionNumber (w .table) (w .selection) ∷
+    wantedNumber (w .table) (w .selection) (w .wanted) ∷ []
+
+-- what is tested of the list: 7, then 8
+abbrev pub listTests : (table : List ℕ) → (room : ℕ) → List Change → List ℕ
+listTests t room cs = reachNumber t cs ∷ spaceNumber t room cs ∷ []
+
+-- the first of each that applies, 0 where none does
 unfoldable pub testNumber : Wish → ℕ
-testNumber w = cond (sound (w .table)) (cond (valuesSound (w .table) (w .present)) (wishNumber (w .table) (w .selection) (w .wanted)) 2) 1
+testNumber w = firstRefusal (tests w)
+
+unfoldable pub listNumber : (table : List ℕ) → (room : ℕ) → List Change → ℕ
+listNumber t room cs = firstRefusal (listTests t room cs)
+
+-- the first that applies in the call's order, 0 where none does: 1, 2, 5 and 6, which are tested before the list, then 7 and 8
+unfoldable pub restoreNumber : Wish → (room : ℕ) → ℕ
+restoreNumber w room = firstRefusal (tests w ++ listTests (w .table) room (changes w))
 
 -- 1, 2, 5 and 6 do not apply
 pub record Admitted (w : Wish) : Type 0 where
@@ -83,19 +113,6 @@ pub record Admitted (w : Wish) : Type 0 where
   pub present : valuesSound (w .table) (w .present) ≡ true
   pub selection : selectionRight (w .table) (w .selection) ≡ true
   pub wanted : wantedRight (w .table) (w .selection) (w .wanted) ≡ true
-
--- 7 a wanted change is beyond reach, 8 the list is longer than its buffer
-unfoldable pub listNumber : (table : List ℕ) → (room : ℕ) → List Change → ℕ
-listNumber t room cs = cond (allReachable t cs) (cond (leb (length (listing t cs)) room) 0 8) 7
-
--- the first number, or where it is 0 the other one
-unfoldable pub firstOf : ℕ → ℕ → ℕ
-firstOf zero n = n
-firstOf (suc m) n = suc m
-
--- the lowest number that applies, 0 where none does: 1, 2, 5 and 6, which are tested before the list, then 7 and 8
-unfoldable pub restoreNumber : Wish → (room : ℕ) → ℕ
-restoreNumber w room = firstOf (testNumber w) (listNumber (w .table) room (changes w))
 
 -- what the call tells, and what it leaves in the list buffer
 pub record Told : Type 0 where

@@ -1,4 +1,4 @@
--- `failed_test`: each test in its turn.
+-- `failed_test`: the numbers in their order.
 use borrow.Author.Needs.{needs}
 use Rattle.restore.specs.Demand.Testing.{testing}
 use Rattle.restore.proofs.failed_test.Statement.{statement}
@@ -8,9 +8,11 @@ pub failed-test-spec : {M : Type 1} → statement M
 failed-test-spec =
     tie.close
     (tie.spec
-    (λ c κs. search (testing, needs))  -- is-sound-requires
+    (λ c κs. search (testing, needs))  -- check-requires
     (λ c. search (testing, needs))  -- returns
-    (λ c κs. search (testing, needs))  -- are-sound-requires
+    (λ c κs. search (testing, needs))  -- values-number-requires
     (λ c. search (testing, needs))  -- returns-2
-    (λ c κs. search (testing, needs))  -- failed-wish-requires
-    (λ c. search (testing, needs)))  -- returns-3
+    (λ c κs. search (testing, needs))  -- selection-number-requires
+    (λ c. search (testing, needs))  -- returns-3
+    (λ c κs. search (testing, needs))  -- wanted-number-requires
+    (λ c. search (testing, needs)))  -- returns-4

@@ -1,38 +1,43 @@
--- Rules for the tests before the list: a failed one gives the call its number.
+-- Rules for the tests before the list: the first that fails gives the call its number.
 use mathlib.Core.Path.{_≡_, sym, _∙_}
 use mathlib.Core.Bool.{Bool, true, false, not}
 use mathlib.Core.List.{List}
 use Prim.Native.Nat.{ℕ}
 use borrow.Author.Tests.{not-false, not-true}
 use lib.IntN.{ℤ}
-use Rattle.text.specs.Every.Laws.{test-held}
-use Rattle.room.specs.Table.{sound}
-use Rattle.values.specs.Values.{valuesSound}
+use Rattle.room.specs.Refusal.{firstRefusal}
+use Rattle.room.specs.Refusal.Laws.{refusing}
+use Rattle.room.specs.Table.Number.{table-held}
 use Rattle.wish.specs.Target.{selectionRight, wantedRight}
-use Rattle.wish.specs.Listing.{testNumber, wishNumber}
-use Rattle.wish.specs.Listing.Numbers.{test-present, test-table, test-wish, wish-right, wish-selection, wish-wanted}
+use Rattle.wish.specs.Listing.{selectionNumber, testNumber, tests, wantedNumber}
+use Rattle.wish.specs.Listing.Numbers.{passed-selection, selection-passed, selection-refused, test-first, wanted-passed, wanted-refused}
 use Rattle.restore_list.specs.Measuring.Walk.{wishOf}
 
-module _ (t selection : List ℕ) (ws : List ℤ) (b : Bool) where
-  pub fails-selection : b ≡ selectionRight t selection → not b ≡ true → 5 ≡ wishNumber t selection ws
-  fails-selection e h = sym (wish-selection t selection ws (sym e ∙ not-true b h))
+-- ---- the number of one test
 
-  pub fails-wanted : b ≡ wantedRight t selection ws → not b ≡ true → selectionRight t selection ≡ true → 6 ≡ wishNumber t selection ws
-  fails-wanted e h c = sym (wish-wanted t selection ws c (sym e ∙ not-true b h))
+module _ (t selection : List ℕ) (b : Bool) (e : b ≡ selectionRight t selection) where
+  pub fails-selection : b ≡ false → 5 ≡ selectionNumber t selection
+  fails-selection h = sym (selection-refused t selection (sym e ∙ h))
 
-  pub passes-wish : b ≡ wantedRight t selection ws → not b ≡ false → selectionRight t selection ≡ true → 0 ≡ wishNumber t selection ws
-  passes-wish e h c = sym (wish-right t selection ws c (sym e ∙ not-false b h))
+  pub passes-selection : b ≡ true → 0 ≡ selectionNumber t selection
+  passes-selection h = sym (selection-passed t selection (sym e ∙ h))
 
-pub ruleset wish-testing = (test-held, fails-selection, fails-wanted, passes-wish)
+module _ (t selection : List ℕ) (ws : List ℤ) (b : Bool) (e : b ≡ wantedRight t selection ws) where
+  pub fails-wanted : not b ≡ true → 6 ≡ wantedNumber t selection ws
+  fails-wanted h = sym (wanted-refused t selection ws (sym e ∙ not-true b h))
 
-module _ (t : List ℕ) (vs : List ℤ) (selection : List ℕ) (ws : List ℤ) (b : Bool) where
-  pub fails-table : b ≡ sound t → not b ≡ true → 1 ≡ testNumber (wishOf t vs selection ws)
-  fails-table e h = sym (test-table (wishOf t vs selection ws) (sym e ∙ not-true b h))
+  pub passes-wanted : not b ≡ false → 0 ≡ wantedNumber t selection ws
+  passes-wanted h = sym (wanted-passed t selection ws (sym e ∙ not-false b h))
 
-  pub fails-values : b ≡ valuesSound t vs → not b ≡ true → sound t ≡ true → 2 ≡ testNumber (wishOf t vs selection ws)
-  fails-values e h s = sym (test-present (wishOf t vs selection ws) s (sym e ∙ not-true b h))
+pub ruleset wish-testing = (fails-selection, passes-selection, fails-wanted, passes-wanted)
 
-  pub tests-wish : (n : ℕ) → n ≡ wishNumber t selection ws → b ≡ valuesSound t vs → not b ≡ false → sound t ≡ true → n ≡ testNumber (wishOf t vs selection ws)
-  tests-wish n k e h s = k ∙ sym (test-wish (wishOf t vs selection ws) s (sym e ∙ not-false b h))
+-- ---- the number of them all
 
-pub ruleset testing = (test-held, fails-table, fails-values, tests-wish)
+pub selection-held : (t selection : List ℕ) (n : ℕ) → n ≡ selectionNumber t selection → n ≡ 0 → selectionRight t selection ≡ true
+selection-held t selection n e z = passed-selection t selection (sym e ∙ z)
+
+pub tests-wish : (t : List ℕ) (vs : List ℤ) (selection : List ℕ) (ws : List ℤ) (n : ℕ) → n ≡ firstRefusal (tests (wishOf t vs selection ws))
+    → n ≡ testNumber (wishOf t vs selection ws)
+tests-wish t vs selection ws n e = e ∙ sym (test-first (wishOf t vs selection ws))
+
+pub ruleset testing = (table-held, selection-held, tests-wish, refusing)

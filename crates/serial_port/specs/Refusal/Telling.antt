@@ -1,46 +1,27 @@
--- Rules for the code that tells the number, and what the number 0 tells.
-use mathlib.Core.Path.{_≡_, refl, sym, _∙_}
-use mathlib.Core.Bool.{Bool, true, false, not, cond}
-use mathlib.Core.List.{List}
-use Prim.Native.Nat.{ℕ, _≤_, _<_}
-use native.Mathlib.Omega.{arith}
-use borrow.Author.Tests.{not-true, leb-true}
-use lib.Dec.{leb}
+-- A rule for the code that tells the number, and what the number 0 tells.
+use mathlib.Core.Path.{_≡_, sym, _∙_}
+use mathlib.Core.Bool.{true}
+use mathlib.Core.List.{List, [], _∷_}
+use Prim.Native.Nat.{ℕ, _≤_}
 use lib.IntN.{ℤ}
-use Rattle.text.specs.Every.Laws.{test-held}
-use Rattle.room.specs.Table.{sound}
-use Rattle.values.specs.Values.{valuesSound}
+use Rattle.room.specs.Refusal.{firstRefusal}
+use Rattle.room.specs.Refusal.Laws.{all-passed, refusing}
+use Rattle.room.specs.Table.{sound, tableNumber}
+use Rattle.room.specs.Table.Number.{passed-table, table-held}
+use Rattle.values.specs.Values.{valuesNumber, valuesSound}
+use Rattle.values.specs.Values.Number.{passed-values}
 use Rattle.syntax.specs.Shape.{lineLimit}
-use Rattle.serial_port.specs.Refusal.{callNumber, replyLimit}
-use Rattle.serial_port.specs.Refusal.Laws.{number-table, number-values, number-buffer, number-claim, accepted}
+use Rattle.serial_port.specs.Refusal.{callNumber, claimNumber, replyLimit, replyNumber}
+use Rattle.serial_port.specs.Refusal.Number.{passed-claim, passed-reply}
 
 -- ---- the number
 
-module _ (t : List ℕ) (vs : List ℤ) (replyRoom claimed : ℕ) (a : Bool) (ea : a ≡ sound t) where
-  pub tells-table : not a ≡ true → 1 ≡ callNumber t vs replyRoom claimed
-  tells-table n = sym (number-table t vs replyRoom claimed (sym ea ∙ not-true a n))
+pub tells-call : (t : List ℕ) (vs : List ℤ) (replyRoom claimed n : ℕ)
+    → n ≡ firstRefusal (tableNumber t ∷ valuesNumber t vs ∷ replyNumber 64 replyRoom ∷ claimNumber claimed ∷ []) → n ≡ callNumber t vs replyRoom claimed
+unfolding callNumber replyLimit
+tells-call t vs replyRoom claimed n e = e
 
-  module _ (na : not a ≡ false) (b : Bool) (eb : b ≡ valuesSound t vs) where
-    pub tells-values : not b ≡ true → 2 ≡ callNumber t vs replyRoom claimed
-    tells-values n = sym (number-values t vs replyRoom claimed (test-held a (sound t) ea na) (sym eb ∙ not-true b n))
-
-    module _ (nb : not b ≡ false) where
-      pub tells-buffer : replyRoom < 64 → 3 ≡ callNumber t vs replyRoom claimed
-      unfolding replyLimit
-      tells-buffer h =
-          sym (number-buffer t vs replyRoom claimed (test-held a (sound t) ea na) (test-held b (valuesSound t vs) eb nb) h)
-
-      pub tells-claim : 64 ≤ replyRoom → 64 < claimed → 4 ≡ callNumber t vs replyRoom claimed
-      unfolding replyLimit lineLimit
-      tells-claim h k =
-          sym (number-claim t vs replyRoom claimed (test-held a (sound t) ea na) (test-held b (valuesSound t vs) eb nb) h k)
-
-      pub tells-none : 64 ≤ replyRoom → claimed ≤ 64 → 0 ≡ callNumber t vs replyRoom claimed
-      unfolding replyLimit lineLimit
-      tells-none h k =
-          sym (accepted t vs replyRoom claimed (test-held a (sound t) ea na) (test-held b (valuesSound t vs) eb nb) h k)
-
-pub ruleset telling = (test-held, tells-table, tells-values, tells-buffer, tells-claim, tells-none)
+pub ruleset telling = (table-held, tells-call, refusing)
 
 -- ---- what the number 0 tells
 
@@ -49,15 +30,12 @@ Accepts t vs replyRoom claimed = (sound t ≡ true) × (valuesSound t vs ≡ tru
 
 accepts : (t : List ℕ) (vs : List ℤ) (replyRoom claimed : ℕ) → callNumber t vs replyRoom claimed ≡ 0 → Accepts t vs replyRoom claimed
 unfolding callNumber replyLimit lineLimit
-accepts t vs replyRoom claimed e = go (sound t) (valuesSound t vs) (leb 64 replyRoom) (leb claimed 64) refl refl refl refl e
-  where
-    go : (a b c d : Bool) → sound t ≡ a → valuesSound t vs ≡ b → leb 64 replyRoom ≡ c → leb claimed 64 ≡ d
-        → _≡_ {A = ℕ} (cond a (cond b (cond c (cond d 0 4) 3) 2) 1) 0 → Accepts t vs replyRoom claimed
-    go true true true true p q r s e = (p, q, leb-true 64 replyRoom r, leb-true claimed 64 s)
-    go true true true false p q r s e = absurd (omega arith)
-    go true true false d p q r s e = absurd (omega arith)
-    go true false c d p q r s e = absurd (omega arith)
-    go false b c d p q r s e = absurd (omega arith)
+accepts t vs replyRoom claimed e =
+    let a = all-passed _ _ e in
+    let b = all-passed _ _ (a .1) in
+    let c = all-passed _ _ (b .1) in
+    let d = all-passed _ _ (c .1) in
+    (passed-table t (a .0), passed-values t vs (b .0), passed-reply 64 replyRoom (c .0), passed-claim claimed (d .0))
 
 module _ (t : List ℕ) (vs : List ℤ) (replyRoom claimed n : ℕ) (e : n ≡ callNumber t vs replyRoom claimed) (z : n ≡ 0) where
   pub none-table : sound t ≡ true

@@ -1,107 +1,146 @@
 -- When the restore call refuses, and with which number: one rule for each.
-use mathlib.Core.Path.{_≡_, refl}
-use mathlib.Core.Bool.{Bool, true, false}
+use mathlib.Core.Path.{_≡_, refl, _∙_}
+use mathlib.Core.Bool.{true, false}
 use mathlib.Core.List.{List}
-use Prim.Native.Nat.{ℕ, zero, suc, _≤_, _<_}
-use native.Mathlib.Omega.{arith}
+use Prim.Native.Nat.{ℕ, _≤_, _<_}
 use borrow.Author.Tests.{le-leb, lt-leb}
+use lib.Dec.{leb}
 use lib.IntN.{ℤ}
 use lib.ListN.{length}
+use Rattle.room.specs.Refusal.{firstRefusal}
+use Rattle.room.specs.Refusal.Laws.{all, passes, stops, all-passed, first-append, first-by, first-passed, first-stops, test-passed, test-refused, passed-test}
 use Rattle.room.specs.Table.{sound}
+use Rattle.room.specs.Table.Number.{passed-table, table-passed, table-refused}
 use Rattle.values.specs.Values.{valuesSound}
+use Rattle.values.specs.Values.Number.{passed-values, values-passed, values-refused}
 use Rattle.wish.specs.Target.{Wish, selectionRight, wantedRight}
-use Rattle.wish.specs.Listing.{Admitted, Change, changes, listing, allReachable, wishNumber, testNumber, listNumber, firstOf, restoreNumber}
+use Rattle.wish.specs.Listing.{Admitted, Change, changes, listing, allReachable, selectionNumber, wantedNumber, reachNumber, spaceNumber, tests, listTests, testNumber, listNumber, restoreNumber}
 
--- ---- 5 and 6: the wish
+-- ---- the number of each test
+
+module _ (t selection : List ℕ) where
+  pub selection-passed : selectionRight t selection ≡ true → selectionNumber t selection ≡ 0
+  unfolding selectionNumber
+  selection-passed c = test-passed (selectionRight t selection) 5 c
+
+  pub selection-refused : selectionRight t selection ≡ false → selectionNumber t selection ≡ 5
+  unfolding selectionNumber
+  selection-refused c = test-refused (selectionRight t selection) 5 c
+
+  pub passed-selection : selectionNumber t selection ≡ 0 → selectionRight t selection ≡ true
+  unfolding selectionNumber
+  passed-selection e = passed-test (selectionRight t selection) 4 e
 
 module _ (t selection : List ℕ) (ws : List ℤ) where
-  pub wish-selection : selectionRight t selection ≡ false → wishNumber t selection ws ≡ 5
-  unfolding wishNumber
-  wish-selection c = rw c refl
+  pub wanted-passed : wantedRight t selection ws ≡ true → wantedNumber t selection ws ≡ 0
+  unfolding wantedNumber
+  wanted-passed d = test-passed (wantedRight t selection ws) 6 d
 
-  pub wish-wanted : selectionRight t selection ≡ true → wantedRight t selection ws ≡ false → wishNumber t selection ws ≡ 6
-  unfolding wishNumber
-  wish-wanted c d = rw (c, d) refl
+  pub wanted-refused : wantedRight t selection ws ≡ false → wantedNumber t selection ws ≡ 6
+  unfolding wantedNumber
+  wanted-refused d = test-refused (wantedRight t selection ws) 6 d
 
-  pub wish-right : selectionRight t selection ≡ true → wantedRight t selection ws ≡ true → wishNumber t selection ws ≡ 0
-  unfolding wishNumber
-  wish-right c d = rw (c, d) refl
+  pub passed-wanted : wantedNumber t selection ws ≡ 0 → wantedRight t selection ws ≡ true
+  unfolding wantedNumber
+  passed-wanted e = passed-test (wantedRight t selection ws) 5 e
 
--- ---- 1 and 2 before them
+module _ (t : List ℕ) (cs : List Change) where
+  reach-passed : allReachable t cs ≡ true → reachNumber t cs ≡ 0
+  unfolding reachNumber
+  reach-passed r = test-passed (allReachable t cs) 7 r
+
+  reach-refused : allReachable t cs ≡ false → reachNumber t cs ≡ 7
+  unfolding reachNumber
+  reach-refused r = test-refused (allReachable t cs) 7 r
+
+module _ (t : List ℕ) (room : ℕ) (cs : List Change) where
+  space-passed : length (listing t cs) ≤ room → spaceNumber t room cs ≡ 0
+  unfolding spaceNumber
+  space-passed h = test-passed (leb (length (listing t cs)) room) 8 (le-leb (length (listing t cs)) room h)
+
+  space-refused : room < length (listing t cs) → spaceNumber t room cs ≡ 8
+  unfolding spaceNumber
+  space-refused h = test-refused (leb (length (listing t cs)) room) 8 (lt-leb (length (listing t cs)) room h)
+
+-- ---- 1, 2, 5 and 6
 
 module _ (w : Wish) where
-  pub test-table : sound (w .table) ≡ false → testNumber w ≡ 1
+  pub test-first : testNumber w ≡ firstRefusal (tests w)
   unfolding testNumber
-  test-table a = rw a refl
-
-  pub test-present : sound (w .table) ≡ true → valuesSound (w .table) (w .present) ≡ false → testNumber w ≡ 2
-  unfolding testNumber
-  test-present a b = rw (a, b) refl
-
-  pub test-wish : sound (w .table) ≡ true → valuesSound (w .table) (w .present) ≡ true → testNumber w ≡ wishNumber (w .table) (w .selection) (w .wanted)
-  unfolding testNumber
-  test-wish a b = rw (a, b) refl
+  test-first = refl
 
   -- a wish that passes all four is admitted
   pub test-admits : testNumber w ≡ 0 → Admitted w
-  unfolding testNumber wishNumber
+  unfolding testNumber
   test-admits h =
-      go (sound (w .table)) (valuesSound (w .table) (w .present)) (selectionRight (w .table) (w .selection))
-      (wantedRight (w .table) (w .selection) (w .wanted)) refl refl refl refl
-    where
-      go : (a b c d : Bool) → sound (w .table) ≡ a → valuesSound (w .table) (w .present) ≡ b → selectionRight (w .table) (w .selection) ≡ c
-          → wantedRight (w .table) (w .selection) (w .wanted) ≡ d → Admitted w
-      go false b c d e f g i = absurd (let z : _≡_ {A = ℕ} 1 0 = rw e at h in omega arith)
-      go true false c d e f g i = absurd (let z : _≡_ {A = ℕ} 2 0 = rw (e, f) at h in omega arith)
-      go true true false d e f g i = absurd (let z : _≡_ {A = ℕ} 5 0 = rw (e, f, g) at h in omega arith)
-      go true true true false e f g i = absurd (let z : _≡_ {A = ℕ} 6 0 = rw (e, f, g, i) at h in omega arith)
-      go true true true true e f g i = record { table = e; present = f; selection = g; wanted = i }
+      let a = all-passed _ _ h in
+      let b = all-passed _ _ (a .1) in
+      let c = all-passed _ _ (b .1) in
+      let d = all-passed _ _ (c .1) in
+      record {
+        table = passed-table (w .table) (a .0);
+        present = passed-values (w .table) (w .present) (b .0);
+        selection = passed-selection (w .table) (w .selection) (c .0);
+        wanted = passed-wanted (w .table) (w .selection) (w .wanted) (d .0);
+      }
+
+  admits-test : Admitted w → testNumber w ≡ 0
+  unfolding testNumber
+  admits-test a =
+      first-by
+      (passes (table-passed (w .table) (a .table))
+      (passes (values-passed (w .table) (w .present) (a .present))
+      (passes (selection-passed (w .table) (w .selection) (a .selection)) (passes (wanted-passed (w .table) (w .selection) (w .wanted) (a .wanted)) all))))
 
 -- ---- 7 and 8: the list of some changes
 
 module _ (t : List ℕ) (room : ℕ) (cs : List Change) where
   pub list-unreachable : allReachable t cs ≡ false → listNumber t room cs ≡ 7
   unfolding listNumber
-  list-unreachable r = rw r refl
+  list-unreachable r = first-by (stops (reach-refused t cs r))
 
   pub list-long : allReachable t cs ≡ true → room < length (listing t cs) → listNumber t room cs ≡ 8
   unfolding listNumber
-  list-long r h = rw (r, lt-leb (length (listing t cs)) room h) refl
+  list-long r h = first-by (passes (reach-passed t cs r) (stops (space-refused t room cs h)))
 
   pub list-fits : allReachable t cs ≡ true → length (listing t cs) ≤ room → listNumber t room cs ≡ 0
   unfolding listNumber
-  list-fits r h = rw (r, le-leb (length (listing t cs)) room h) refl
+  list-fits r h = first-by (passes (reach-passed t cs r) (passes (space-passed t room cs h) all))
 
 -- ---- the call: the first of them that applies
 
 module _ (w : Wish) (room : ℕ) where
   pub number-test : (testNumber w ≡ 0 → ⊥) → restoreNumber w room ≡ testNumber w
-  unfolding restoreNumber firstOf
-  number-test h = go (testNumber w) h
-    where
-      go : (n : ℕ) → (n ≡ 0 → ⊥) → firstOf n (listNumber (w .table) room (changes w)) ≡ n
-      go zero h = absurd (h refl)
-      go (suc n) h = refl
+  unfolding restoreNumber testNumber
+  number-test h =
+      first-append (tests w) (listTests (w .table) room (changes w)) ∙ first-stops (testNumber w) (listTests (w .table) room (changes w)) h
 
   pub number-table : sound (w .table) ≡ false → restoreNumber w room ≡ 1
-  unfolding restoreNumber testNumber wishNumber firstOf
-  number-table a = rw a refl
+  unfolding restoreNumber
+  number-table a = first-by (stops (table-refused (w .table) a))
 
   pub number-present : sound (w .table) ≡ true → valuesSound (w .table) (w .present) ≡ false → restoreNumber w room ≡ 2
-  unfolding restoreNumber testNumber wishNumber firstOf
-  number-present a b = rw (a, b) refl
+  unfolding restoreNumber
+  number-present a b = first-by (passes (table-passed (w .table) a) (stops (values-refused (w .table) (w .present) b)))
 
   pub number-selection : sound (w .table) ≡ true → valuesSound (w .table) (w .present) ≡ true → selectionRight (w .table) (w .selection) ≡ false
       → restoreNumber w room ≡ 5
-  unfolding restoreNumber testNumber wishNumber firstOf
-  number-selection a b c = rw (a, b, c) refl
+  unfolding restoreNumber
+  number-selection a b c =
+      first-by
+      (passes (table-passed (w .table) a) (passes (values-passed (w .table) (w .present) b) (stops (selection-refused (w .table) (w .selection) c))))
 
   pub number-wanted : sound (w .table) ≡ true → valuesSound (w .table) (w .present) ≡ true → selectionRight (w .table) (w .selection) ≡ true
       → wantedRight (w .table) (w .selection) (w .wanted) ≡ false → restoreNumber w room ≡ 6
-  unfolding restoreNumber testNumber wishNumber firstOf
-  number-wanted a b c d = rw (a, b, c, d) refl
+  unfolding restoreNumber
+  number-wanted a b c d =
+      first-by
+      (passes (table-passed (w .table) a)
+      (passes (values-passed (w .table) (w .present) b)
+      (passes (selection-passed (w .table) (w .selection) c) (stops (wanted-refused (w .table) (w .selection) (w .wanted) d)))))
 
   -- none of these applies
   pub number-list : Admitted w → restoreNumber w room ≡ listNumber (w .table) room (changes w)
-  unfolding restoreNumber testNumber wishNumber firstOf
-  number-list a = rw (a .table, a .present, a .selection, a .wanted) refl
+  unfolding restoreNumber testNumber listNumber
+  number-list a =
+      first-append (tests w) (listTests (w .table) room (changes w)) ∙ first-passed (testNumber w) (listTests (w .table) room (changes w)) (admits-test w a)
