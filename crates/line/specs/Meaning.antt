@@ -1,4 +1,5 @@
 -- What a line means: the first code that applies, a parameter to tell, or a parameter and the value that it is set to.
+pub mod Bearing
 pub mod Laws
 pub mod Reading
 use mathlib.Core.List.{List}
@@ -57,13 +58,18 @@ unfoldable pub setOf : List ℤ → List ℕ → Target → Meaning
 setOf vs text (target p) = putOf p (readValue (p .row) (getD vs (place p) (pos 0)) text)
 setOf vs text (code n) = Code n
 
--- the parts of a line, in the order of the codes: 99 its shape, 1 its label, 2 its index part, 3 its value text
-unfoldable pub ofShape : List ℕ → List ℤ → List ℕ → Shape → Meaning
-ofShape t vs line shape.Malformed = Code 99
-ofShape t vs line (shape.Get o c) = getOf (inRoom (bearer t (part line (o + 1) c)) (readIndices (part line (c + 1) (length line))))
-ofShape t vs line (shape.Set o c e) =
-    setOf vs (part line (e + 1) (length line)) (inRoom (bearer t (part line (o + 1) c)) (readIndices (part line (c + 1) e)))
+-- the module that alone bears a line's label, which stands between its quotes; a malformed line has no label
+unfoldable pub bearerOf : List ℕ → (line : List ℕ) → Shape → Bearer
+bearerOf t line shape.Malformed = NotOne
+bearerOf t line (shape.Get o c) = bearer t (part line (o + 1) c)
+bearerOf t line (shape.Set o c e) = bearer t (part line (o + 1) c)
+
+-- the parts of a line whose label's bearer is known, in the order of the codes: 99 its shape, 1 its label, 2 its index part, 3 its value text
+unfoldable pub ofShape : List ℤ → (line : List ℕ) → Bearer → Shape → Meaning
+ofShape vs line b shape.Malformed = Code 99
+ofShape vs line b (shape.Get o c) = getOf (inRoom b (readIndices (part line (c + 1) (length line))))
+ofShape vs line b (shape.Set o c e) = setOf vs (part line (e + 1) (length line)) (inRoom b (readIndices (part line (c + 1) e)))
 
 -- what a line means in the room of table t and values vs
 unfoldable pub meaning : List ℕ → List ℤ → List ℕ → Meaning
-meaning t vs line = ofShape t vs line (shape line)
+meaning t vs line = ofShape vs line (bearerOf t line (shape line)) (shape line)

@@ -22,7 +22,7 @@ use Rattle.values.specs.Parameters.{numbered, parametersOf, place, withIndices,
 use Rattle.syntax.specs.Shape.{lineLimit, isSet, isGet, opening, closing, equals, getShape, setShape, quoted, shape}
 use Rattle.syntax.specs.IndexPart.{oneGroup, twoGroups, groups, readIndices}
 use Rattle.syntax.specs.Value.{ofLevel, ofNumber, ofSwitch, readKind, onlyPermitted, readValue}
-use Rattle.line.specs.Meaning.{indexed, inModule, inRoom, putOf, getOf, setOf, ofShape, meaning}
+use Rattle.line.specs.Meaning.{indexed, inModule, inRoom, putOf, getOf, setOf, bearerOf, ofShape, meaning}
 use Rattle.spelling.specs.Name.{name}
 use Rattle.spelling.specs.IndexText.{indexText}
 use Rattle.spelling.specs.Reply.{getReply}
@@ -100,5 +100,5 @@ unfolding answered cases bytes puts told refused tableA oneByteRecord zeros same
     label same bearersIn exactlyOne bearer numbered parametersOf place sameIndices withIndices named
     lineLimit isSet isGet opening firstFrom closing equals getShape setShape quoted shape part
     oneGroup twoGroups groups readIndices ofLevel ofNumber ofSwitch readKind onlyPermitted readValue
-    indexed inModule inRoom putOf getOf setOf ofShape meaning ack nak indexText textOf name getReply act answer
+    indexed inModule inRoom putOf getOf setOf bearerOf ofShape meaning ack nak indexText textOf name getReply act answer
 worked = refl

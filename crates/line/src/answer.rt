@@ -1,9 +1,13 @@
 // The answer to a line: the reply, and the values afterwards.
 use crate::meaning::Meaning;
+use crate::meaning::bearer_of;
 use crate::meaning::meaning_of;
+use room::label::Bearer;
 use spelling::acknowledgement::put_ack;
 use spelling::acknowledgement::put_nak;
 use spelling::reply::put_get;
+use syntax::shape::Shape;
+use syntax::shape::shape_of;
 use values::parameter::Parameter;
 ghost use mathlib.Core.Bool.{true};
 ghost use mathlib.Core.Path.{_≡_};
@@ -15,6 +19,8 @@ ghost use Rattle.catalogue.specs.Catalogue.{numbers};
 ghost use Rattle.values.specs.Parameters.{place};
 ghost use Rattle.room.specs.Table.{sound};
 ghost use Rattle.values.specs.Values.{valuesSound};
+ghost use Rattle.syntax.specs.Shape as syntax;
+ghost use Rattle.line.specs.Meaning.{bearerOf};
 ghost use Rattle.line.specs.Answer.{Answers};
 ghost use Rattle.line.specs.Answer.Replying.{Tellable};
 ghost use Rattle.spelling.specs.Reply.{getReply};
@@ -42,6 +48,27 @@ fn put(values: &mut [i64], p: Parameter, x: i64, reply: &mut [u8]) -> usize
     put_ack(reply)
 }
 
+// Answers a shaped line, where the bearer of its label is known: does what it means.
+fn answer_shaped(
+    table: &[u8],
+    rows: &[[i32; 8]; 50],
+    values: &mut [i64],
+    line: &[u8],
+    bearer: Bearer,
+    shape: Shape,
+    reply: &mut [u8],
+) -> usize
+    requires { ⌜ (sound (now table) ≡ true) × (now rows ≡ numbers) × (valuesSound (now table) (now values) ≡ true) ⌝ }
+    requires { ⌜ (64 ≤ length (now reply)) × (shape ≡ syntax.shape (now line)) × (bearer ≡ bearerOf (now table) (now line) shape) ⌝ }
+    ensures { λ r. ⌜ Answers (now (table .entry)) (now (values .entry)) (now (line .entry)) (now (reply .entry)) r (now (values .exit)) (now (reply .exit)) ⌝ }
+{
+    match meaning_of(rows, values, line, bearer, shape) {
+        Meaning::Code(n) => put_nak(reply, n),
+        Meaning::Get(p) => tell(table, values, p, reply),
+        Meaning::Put(p, x) => put(values, p, x, reply),
+    }
+}
+
 // Answers a line: writes the reply at its buffer's start, tells its length, and sets the value that the line puts.
 pub fn answer_line(
     table: &[u8],
@@ -54,9 +81,7 @@ pub fn answer_line(
     requires { ⌜ 64 ≤ length (now reply) ⌝ }
     ensures { λ r. ⌜ Answers (now (table .entry)) (now (values .entry)) (now (line .entry)) (now (reply .entry)) r (now (values .exit)) (now (reply .exit)) ⌝ }
 {
-    match meaning_of(table, rows, values, line) {
-        Meaning::Code(n) => put_nak(reply, n),
-        Meaning::Get(p) => tell(table, values, p, reply),
-        Meaning::Put(p, x) => put(values, p, x, reply),
-    }
+    let shape = shape_of(line);
+    let bearer = bearer_of(table, line, shape);
+    answer_shaped(table, rows, values, line, bearer, shape, reply)
 }

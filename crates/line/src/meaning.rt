@@ -5,7 +5,6 @@ use room::table::Module;
 use syntax::index_part::IndexPart;
 use syntax::index_part::read_indices;
 use syntax::shape::Shape;
-use syntax::shape::shape_of;
 use syntax::value_text::ValueText;
 use syntax::value_text::read_value;
 use values::parameter::Parameter;
@@ -18,15 +17,14 @@ ghost use lib.ListN.{getD, length};
 ghost use Prim.Native.Nat.{_+_, _<_};
 ghost use Rattle.catalogue.specs.Catalogue.{known, numbers};
 ghost use Rattle.room.specs.Label.{bearer};
+ghost use Rattle.text.specs.Cut.{part};
 ghost use Rattle.values.specs.Parameters.{place};
 ghost use Rattle.room.specs.Table.{sound};
-ghost use Rattle.values.specs.Values.{valuesSound};
 ghost use Rattle.syntax.specs.IndexPart.{readIndices};
-ghost use Rattle.line.specs.Meaning.{getOf, inRoom, indexed, meaning, ofShape, putOf};
-ghost use Rattle.line.specs.Meaning.Reading.{Holds, aim};
-ghost use Rattle.text.specs.Cut.{part};
+ghost use Rattle.line.specs.Meaning.{bearerOf, getOf, inRoom, indexed, ofShape, putOf, setOf};
+ghost use Rattle.line.specs.Meaning.Reading.{Holds, KnownBearer, Seated, aim};
+ghost use Rattle.syntax.specs.Shape as syntax;
 ghost use Rattle.syntax.specs.Value.{readValue};
-ghost use Rattle.syntax.specs.declared.shape.Shape.the-variants as shape;
 
 // A code that the line is answered with, a parameter to tell, or a parameter and the value it is set to.
 pub enum Meaning {
@@ -52,12 +50,12 @@ fn indexed(rows: &[[i32; 8]; 50], m: Module, part: &[u8]) -> ParameterFound
     }
 }
 
-// The parameter that a label and an index part name; the label comes first.
-fn target_of(table: &[u8], rows: &[[i32; 8]; 50], label: &[u8], part: &[u8]) -> Target
-    requires { ⌜ (sound (now table) ≡ true) × (now rows ≡ numbers) ⌝ }
-    ensures { λ r. ⌜ aim r ≡ inRoom (bearer (now (table .entry)) (now (label .entry))) (readIndices (now (part .entry))) ⌝ }
+// The parameter that the bearer of a label and an index part name; the label comes first.
+fn target_of(rows: &[[i32; 8]; 50], bearer: Bearer, part: &[u8]) -> Target
+    requires { ⌜ (now rows ≡ numbers) × KnownBearer bearer ⌝ }
+    ensures { λ r. ⌜ aim r ≡ inRoom bearer (readIndices (now (part .entry))) ⌝ }
 {
-    match find_bearer(table, label) {
+    match bearer {
         Bearer::Only(m) => match indexed(rows, m, part) {
             ParameterFound::At(p) => Target::At(p),
             ParameterFound::Nothing => Target::Code(2),
@@ -79,56 +77,71 @@ fn put_meaning(values: &[i64], p: Parameter, text: &[u8]) -> Meaning
     }
 }
 
-// A get line, by the places of its quotes.
-fn get_line(table: &[u8], rows: &[[i32; 8]; 50], line: &[u8], quote: usize, close: usize) -> Meaning
-    requires { ⌜ (sound (now table) ≡ true) × (now rows ≡ numbers) ⌝ }
-    requires { ⌜ (quote < close) × (close < length (now line)) ⌝ }
-    ensures { λ r. ⌜ r ≡ getOf (inRoom (bearer (now (table .entry)) (part (now (line .entry)) (quote + 1) close)) (readIndices (part (now (line .entry)) (close + 1) (length (now (line .entry)))))) ⌝ }
+// A get line, from the bearer of its label and the place of its closing quote.
+fn get_line(rows: &[[i32; 8]; 50], line: &[u8], bearer: Bearer, close: usize) -> Meaning
+    requires { ⌜ (now rows ≡ numbers) × KnownBearer bearer × (close < length (now line)) ⌝ }
+    ensures { λ r. ⌜ r ≡ getOf (inRoom bearer (readIndices (part (now (line .entry)) (close + 1) (length (now (line .entry)))))) ⌝ }
 {
-    match target_of(table, rows, &line[quote + 1..close], &line[close + 1..]) {
+    match target_of(rows, bearer, &line[close + 1..]) {
         Target::At(p) => Meaning::Get(p),
         Target::Code(n) => Meaning::Code(n),
     }
 }
 
-// A set line, by the places of its quotes and its `=`.
+// A set line, from the bearer of its label and the places of its closing quote and its `=`.
 fn set_line(
-    table: &[u8],
     rows: &[[i32; 8]; 50],
     values: &[i64],
     line: &[u8],
-    quote: usize,
+    bearer: Bearer,
     close: usize,
     equal: usize,
 ) -> Meaning
-    requires { ⌜ (sound (now table) ≡ true) × (now rows ≡ numbers) × (valuesSound (now table) (now values) ≡ true) ⌝ }
-    requires { ⌜ (quote < close) × (close < equal) × (equal < length (now line)) ⌝ }
-    ensures { λ r. ⌜ r ≡ ofShape (now (table .entry)) (now (values .entry)) (now (line .entry)) (shape.Set quote close equal) ⌝ }
+    requires { ⌜ (now rows ≡ numbers) × Seated (now values) bearer ⌝ }
+    requires { ⌜ (close < equal) × (equal < length (now line)) ⌝ }
+    ensures { λ r. ⌜ r ≡ setOf (now (values .entry)) (part (now (line .entry)) (equal + 1) (length (now (line .entry)))) (inRoom bearer (readIndices (part (now (line .entry)) (close + 1) equal))) ⌝ }
 {
-    match target_of(
-        table,
-        rows,
-        &line[quote + 1..close],
-        &line[close + 1..equal],
-    ) {
+    match target_of(rows, bearer, &line[close + 1..equal]) {
         Target::At(p) => put_meaning(values, p, &line[equal + 1..]),
         Target::Code(n) => Meaning::Code(n),
     }
 }
 
-// What a line means in the room of a table and its values.
+// What a shaped line means, where the bearer of its label is known.
 pub(crate) fn meaning_of(
-    table: &[u8],
     rows: &[[i32; 8]; 50],
     values: &[i64],
     line: &[u8],
+    bearer: Bearer,
+    shape: Shape,
 ) -> Meaning
-    requires { ⌜ (sound (now table) ≡ true) × (now rows ≡ numbers) × (valuesSound (now table) (now values) ≡ true) ⌝ }
-    ensures { λ r. ⌜ r ≡ meaning (now (table .entry)) (now (values .entry)) (now (line .entry)) ⌝ }
+    requires { ⌜ (now rows ≡ numbers) × Seated (now values) bearer × (shape ≡ syntax.shape (now line)) ⌝ }
+    ensures { λ r. ⌜ r ≡ ofShape (now (values .entry)) (now (line .entry)) bearer shape ⌝ }
 {
-    match shape_of(line) {
+    match shape {
         Shape::Malformed => Meaning::Code(99),
-        Shape::Get(quote, close) => get_line(table, rows, line, quote, close),
-        Shape::Set(quote, close, equal) => set_line(table, rows, values, line, quote, close, equal),
+        Shape::Get(_, close) => get_line(rows, line, bearer, close),
+        Shape::Set(_, close, equal) => set_line(rows, values, line, bearer, close, equal),
+    }
+}
+
+// The module that alone bears what stands between two quotes.
+fn quoted_bearer(table: &[u8], line: &[u8], quote: usize, close: usize) -> Bearer
+    requires { ⌜ sound (now table) ≡ true ⌝ }
+    requires { ⌜ (quote < close) × (close < length (now line)) ⌝ }
+    ensures { λ r. ⌜ r ≡ bearer (now (table .entry)) (part (now (line .entry)) (quote + 1) close) ⌝ }
+{
+    find_bearer(table, &line[quote + 1..close])
+}
+
+// The module that alone bears the label of a shaped line.
+pub(crate) fn bearer_of(table: &[u8], line: &[u8], shape: Shape) -> Bearer
+    requires { ⌜ (sound (now table) ≡ true) × (shape ≡ syntax.shape (now line)) ⌝ }
+    ensures { λ r. ⌜ r ≡ bearerOf (now (table .entry)) (now (line .entry)) shape ⌝ }
+{
+    match shape {
+        Shape::Malformed => Bearer::NotOne,
+        Shape::Get(quote, close) => quoted_bearer(table, line, quote, close),
+        Shape::Set(quote, close, _) => quoted_bearer(table, line, quote, close),
     }
 }

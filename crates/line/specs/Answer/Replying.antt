@@ -18,13 +18,11 @@ use Rattle.values.specs.Parameters.First.{place-is}
 use Rattle.room.specs.Table.{sound}
 use Rattle.values.specs.Values.{valuesSound}
 use Rattle.values.specs.Values.Laws.{value-inside}
-use Rattle.room.specs.Label.{bearer}
 use Rattle.room.specs.declared.label.Bearer.{Bearer}
 use Rattle.room.specs.declared.label.Bearer.the-variants.{Only, NotOne}
 use Rattle.values.specs.declared.parameter.Parameter.{Parameter}
 use Rattle.values.specs.declared.parameter.ParameterFound.{ParameterFound}
 use Rattle.values.specs.declared.parameter.ParameterFound.the-variants.{At, Nothing}
-use Rattle.text.specs.Cut.{part}
 use Rattle.syntax.specs.Shape.{shape}
 use Rattle.syntax.specs.declared.shape.Shape.{Shape}
 use Rattle.syntax.specs.declared.shape.Shape.the-variants as shape
@@ -34,8 +32,9 @@ use Rattle.syntax.specs.declared.value_text.ValueText.the-variants as value
 use Rattle.line.specs.Answer.{Answers, answers, act}
 use Rattle.line.specs.Answer.Laws.{answered, gets-place, puts-place}
 use Rattle.line.specs.Answer.Replies.{gets-label, reply-limit}
-use Rattle.line.specs.Meaning.{Target, target, code, getOf, inModule, inRoom, indexed, meaning, ofShape, putOf, setOf}
+use Rattle.line.specs.Meaning.{Target, target, code, getOf, inModule, inRoom, indexed, meaning, ofShape, putOf, setOf, bearerOf}
 use Rattle.line.specs.Meaning.Laws.{get-told, put-told}
+use Rattle.line.specs.Meaning.Bearing.{bearer-seated}
 use Rattle.spelling.specs.Reply.{getReply}
 use Rattle.spelling.specs.Acknowledgement.{ack, nak}
 use Rattle.line.specs.declared.meaning.Meaning.{Meaning}
@@ -104,19 +103,19 @@ unfolding setOf
 small-set vs text (target p) h = small-put p _
 small-set vs text (code n) h = h
 
-small-shape : (t : List ℕ) (vs : List ℤ) (line : List ℕ) (s : Shape) → Small (ofShape t vs line s)
+small-shape : (vs : List ℤ) (line : List ℕ) (b : Bearer) (s : Shape) → Small (ofShape vs line b s)
 unfolding ofShape
-small-shape t vs line shape.Malformed = lit< tt
-small-shape t vs line (shape.Get o c) = small-get _ (in-room (bearer t (part line (o + 1) c)) _)
-small-shape t vs line (shape.Set o c e) = small-set vs _ _ (in-room (bearer t (part line (o + 1) c)) _)
+small-shape vs line b shape.Malformed = lit< tt
+small-shape vs line b (shape.Get o c) = small-get _ (in-room b _)
+small-shape vs line b (shape.Set o c e) = small-set vs _ _ (in-room b _)
 
-code-small : (t : List ℕ) (vs : List ℤ) (line : List ℕ) (n : ℕ) → meaning t vs line ≡ Code n → n < 100
-unfolding meaning
-code-small t vs line n e = subst Small e (small-shape t vs line (shape line))
+module _ (t : List ℕ) (vs : List ℤ) (line : List ℕ) (b : Bearer) (f : Shape) (l : f ≡ shape line) (k : b ≡ bearerOf t line f) (m : Meaning) (d : m ≡ ofShape vs line b f) where
+  e : m ≡ meaning t vs line
+  unfolding meaning
+  e = rw (← l, ← k) d
 
-module _ (t : List ℕ) (vs : List ℤ) (line : List ℕ) (m : Meaning) (e : m ≡ meaning t vs line) where
   pub code-below : (n : ℕ) → m ≡ Code n → n < 100
-  code-below n h = code-small t vs line n (sym e ∙ h)
+  code-below n h = subst Small (sym d ∙ h) (small-shape vs line b f)
 
   pub get-tellable : (p : Parameter) → m ≡ Get p → sound t ≡ true → valuesSound t vs ≡ true → Tellable t vs p
   unfolding act
@@ -151,4 +150,4 @@ module _ (t : List ℕ) (vs : List ℤ) (line : List ℕ) (m : Meaning) (e : m �
         let a = answered t vs line (Put p x) (sym e ∙ h) in
         answers (rw a w) (k ∙ sym (ap (λ b. b .values) a))
 
-pub ruleset answering = (code-below, get-tellable, put-within, answers-code, answers-get, answers-put)
+pub ruleset answering = (bearer-seated, code-below, get-tellable, put-within, answers-code, answers-get, answers-put)

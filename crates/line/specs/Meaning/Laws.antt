@@ -25,7 +25,7 @@ use Rattle.syntax.specs.Shape.{shape}
 use Rattle.syntax.specs.IndexPart.{readIndices}
 use Rattle.syntax.specs.Value.{readValue}
 use Rattle.syntax.specs.Value.Laws.{Valued, value-told, value-back}
-use Rattle.line.specs.Meaning.{indexed, Target, target, code, inModule, inRoom, putOf, getOf, setOf, ofShape, meaning}
+use Rattle.line.specs.Meaning.{indexed, Target, target, code, inModule, inRoom, putOf, getOf, setOf, bearerOf, ofShape, meaning}
 use Rattle.syntax.specs.declared.shape.Shape.{Shape}
 use Rattle.syntax.specs.declared.shape.Shape.the-variants as shape
 use Rattle.syntax.specs.declared.index_part.IndexPart.{IndexPart}
@@ -128,10 +128,10 @@ set-told vs text (target q) p x h = go (readValue (q .row) (getD vs (place q) (p
 set-told vs text (code n) p x h = no-put p x n h
 
 pub put-told : (t : List ℕ) (vs : List ℤ) (line : List ℕ) (p : Parameter) (x : ℤ) → meaning t vs line ≡ Put p x → Puts t vs line p x
-unfolding meaning ofShape
+unfolding meaning ofShape bearerOf
 put-told t vs line p x h = go (shape line) refl h
   where
-    go : (s : Shape) → shape line ≡ s → ofShape t vs line s ≡ Put p x → Puts t vs line p x
+    go : (s : Shape) → shape line ≡ s → ofShape vs line (bearerOf t line s) s ≡ Put p x → Puts t vs line p x
     go shape.Malformed e h = no-put p x 99 h
     go (shape.Get o c) e h = get-puts p x (inRoom (bearer t (part line (o + 1) c)) (readIndices (part line (c + 1) (length line)))) h
     go (shape.Set o c e) s h =
@@ -146,7 +146,7 @@ put-told t vs line p x h = go (shape line) refl h
         }
 
 pub puts-back : (t : List ℕ) (vs : List ℤ) (line : List ℕ) (p : Parameter) (x : ℤ) → Puts t vs line p x → meaning t vs line ≡ Put p x
-unfolding meaning ofShape setOf putOf
+unfolding meaning ofShape bearerOf setOf putOf
 puts-back t vs line p x h =
     rw (
       h .shaped,
@@ -169,10 +169,10 @@ get-aims p (target q) h = let s : q ≡ p = cc in ap target s
 get-aims p (code n) h = no-get p n h
 
 pub get-told : (t : List ℕ) (vs : List ℤ) (line : List ℕ) (p : Parameter) → meaning t vs line ≡ Get p → Gets t line p
-unfolding meaning ofShape
+unfolding meaning ofShape bearerOf
 get-told t vs line p h = go (shape line) refl h
   where
-    go : (s : Shape) → shape line ≡ s → ofShape t vs line s ≡ Get p → Gets t line p
+    go : (s : Shape) → shape line ≡ s → ofShape vs line (bearerOf t line s) s ≡ Get p → Gets t line p
     go shape.Malformed e h = no-get p 99 h
     go (shape.Get o c) s h =
         let g = get-aims p (inRoom (bearer t (part line (o + 1) c)) (readIndices (part line (c + 1) (length line)))) h in

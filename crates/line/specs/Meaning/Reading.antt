@@ -3,6 +3,7 @@ use mathlib.Core.Path.{_≡_, sym, _∙_}
 use mathlib.Core.Bool.{true}
 use mathlib.Core.List.{List}
 use Prim.Native.Nat.{ℕ, _+_, _-_, _<_}
+use native.Mathlib.Omega.{arith}
 use lib.IntN.{ℤ, pos}
 use lib.ListN.{length, getD, take, drop}
 use Rattle.catalogue.specs.Catalogue.{known}
@@ -10,14 +11,8 @@ use Rattle.catalogue.specs.Row.{permitted}
 use Rattle.catalogue.specs.Row.{RowFits}
 use Rattle.catalogue.specs.Row.Laws.{bits}
 use Rattle.catalogue.specs.Row.Near.{permitted-bits}
-use Rattle.room.specs.Label.{bearer}
-use Rattle.room.specs.Label.Laws.{bearer-found}
-use Rattle.values.specs.Parameters.{named, parameterAt, parameters, place}
-use Rattle.values.specs.Parameters.Each.{parameter-fits}
+use Rattle.values.specs.Parameters.{named, parameters, place}
 use Rattle.values.specs.Parameters.First.{place-is}
-use Rattle.room.specs.Table.{sound}
-use Rattle.values.specs.Values.{valuesSound}
-use Rattle.values.specs.Values.Laws.{value-inside, value-permitted}
 use Rattle.catalogue.specs.declared.row.Indices.{Indices}
 use Rattle.room.specs.declared.label.Bearer.{Bearer}
 use Rattle.room.specs.declared.label.Bearer.the-variants.{Only, NotOne}
@@ -33,8 +28,7 @@ use Rattle.syntax.specs.Shape.Reading.{get-ordered}
 use Rattle.syntax.specs.IndexPart.{readIndices}
 use Rattle.syntax.specs.Value.{readValue}
 use Rattle.syntax.specs.Value.Laws.{value-told}
-use Rattle.line.specs.Meaning.{indexed, Target, target, code, inModule, inRoom, putOf, getOf, setOf, ofShape, meaning}
-use Rattle.line.specs.Meaning.Laws.{names-told, names-place}
+use Rattle.line.specs.Meaning.{indexed, Target, target, code, inModule, inRoom, putOf, getOf, setOf, ofShape}
 use Rattle.line.specs.declared.meaning.Target as declared
 use Rattle.line.specs.declared.meaning.Target.the-variants as aimed
 use Rattle.syntax.specs.declared.shape.Shape.{Shape}
@@ -66,23 +60,27 @@ unfoldable pub aim : declared.Target → Target
 aim (aimed.At p) = target p
 aim (aimed.Code n) = code n
 
-module _ (t text s : List ℕ) (b : Bearer) (e : b ≡ bearer t text) where
-  pub not-one : b ≡ NotOne → aim (aimed.Code 1) ≡ inRoom (bearer t text) (readIndices s)
+-- a module that bears a label has a known type
+abbrev pub KnownBearer : Bearer → Type 0
+KnownBearer b = (m : Module) → b ≡ Only m → known (m .kind) ≡ true
+
+module _ (b : Bearer) (s : List ℕ) where
+  pub not-one : b ≡ NotOne → aim (aimed.Code 1) ≡ inRoom b (readIndices s)
   unfolding aim inRoom
-  not-one h = rw (sym e ∙ h)
+  not-one h = rw h
 
   module _ (m : Module) (h : b ≡ Only m) where
-    pub bearer-known : sound t ≡ true → known (m .kind) ≡ true
-    bearer-known sd = bearer-found t text m sd (sym e ∙ h) .kinds
+    pub bearer-known : KnownBearer b → known (m .kind) ≡ true
+    bearer-known k = k m h
 
     module _ (f : ParameterFound) (g : f ≡ indexed m (readIndices s)) where
-      pub one-named : (p : Parameter) → f ≡ At p → aim (aimed.At p) ≡ inRoom (bearer t text) (readIndices s)
+      pub one-named : (p : Parameter) → f ≡ At p → aim (aimed.At p) ≡ inRoom b (readIndices s)
       unfolding aim inRoom inModule
-      one-named p k = rw (sym e ∙ h, sym g ∙ k)
+      one-named p k = rw (h, sym g ∙ k)
 
-      pub none-named : f ≡ Nothing → aim (aimed.Code 2) ≡ inRoom (bearer t text) (readIndices s)
+      pub none-named : f ≡ Nothing → aim (aimed.Code 2) ≡ inRoom b (readIndices s)
       unfolding aim inRoom inModule
-      none-named k = rw (sym e ∙ h, sym g ∙ k)
+      none-named k = rw (h, sym g ∙ k)
 
 pub ruleset target-rules = (not-one, bearer-known, one-named, none-named)
 
@@ -122,61 +120,50 @@ pub ruleset put-rules = (held-fits, held-permitted, put-said, put-wrong)
 
 -- ---- a line's parts, by its shape
 
--- what is named has its place in the values
-named-held : (t label s : List ℕ) (vs : List ℤ) (p : Parameter) → inRoom (bearer t label) (readIndices s) ≡ target p → sound t ≡ true
-    → valuesSound t vs ≡ true → Holds vs p
-named-held t label s vs p e sd vd =
-    let k = p .owner .first + p .number in
-    let at : parameterAt (parameters t) k ≡ At p = rw (place-is p) at (names-place t label s p sd (names-told t label s p e)) in
-    record { within = value-inside t vs k p vd at; fits = parameter-fits t k p at; permits = value-permitted t vs k p vd at }
+-- the module that bears a label has a known type, and each of its parameters has its value in the list
+pub record Seated (vs : List ℤ) (b : Bearer) : Type 0 where
+  pub known : KnownBearer b
+  pub holds : (indices : List ℕ) (p : Parameter) → inRoom b (readIndices indices) ≡ target p → Holds vs p
 
-module _ (t line : List ℕ) (o c : ℕ) (g : declared.Target) where
-  module _ (e : aim g ≡ inRoom (bearer t (take (c - (o + 1)) (drop (o + 1) line))) (readIndices (take (length line - (c + 1)) (drop (c + 1) line)))) where
-    pub get-named : (p : Parameter) → g ≡ aimed.At p
-        → Get p ≡ getOf (inRoom (bearer t (part line (o + 1) c)) (readIndices (part line (c + 1) (length line))))
+module _ (line : List ℕ) (b : Bearer) (c : ℕ) (g : declared.Target) where
+  module _ (e : aim g ≡ inRoom b (readIndices (take (length line - (c + 1)) (drop (c + 1) line)))) where
+    pub get-named : (p : Parameter) → g ≡ aimed.At p → Get p ≡ getOf (inRoom b (readIndices (part line (c + 1) (length line))))
     unfolding getOf aim
-    get-named p h = rw (part-is line (o + 1) c, part-is line (c + 1) (length line), ← e, h)
+    get-named p h = rw (part-is line (c + 1) (length line), ← e, h)
 
-    pub get-coded : (n : ℕ) → g ≡ aimed.Code n
-        → Code n ≡ getOf (inRoom (bearer t (part line (o + 1) c)) (readIndices (part line (c + 1) (length line))))
+    pub get-coded : (n : ℕ) → g ≡ aimed.Code n → Code n ≡ getOf (inRoom b (readIndices (part line (c + 1) (length line))))
     unfolding getOf aim
-    get-coded n h = rw (part-is line (o + 1) c, part-is line (c + 1) (length line), ← e, h)
+    get-coded n h = rw (part-is line (c + 1) (length line), ← e, h)
 
-  module _ (q : ℕ) (vs : List ℤ) (e : aim g ≡ inRoom (bearer t (take (c - (o + 1)) (drop (o + 1) line))) (readIndices (take (q - (c + 1)) (drop (c + 1) line)))) where
-    pub set-held : (p : Parameter) → g ≡ aimed.At p → sound t ≡ true → valuesSound t vs ≡ true → Holds vs p
+  module _ (q : ℕ) (vs : List ℤ) (e : aim g ≡ inRoom b (readIndices (take (q - (c + 1)) (drop (c + 1) line)))) where
+    pub set-held : (p : Parameter) → g ≡ aimed.At p → Seated vs b → Holds vs p
     unfolding aim
-    set-held p h sd vd =
-        let f : aim g ≡ target p = rw h in
-        named-held t (take (c - (o + 1)) (drop (o + 1) line)) (take (q - (c + 1)) (drop (c + 1) line)) vs p (sym e ∙ f) sd vd
+    set-held p h k = let f : aim g ≡ target p = rw h in k .holds (take (q - (c + 1)) (drop (c + 1) line)) p (sym e ∙ f)
 
     pub set-named : (p : Parameter) (r : Meaning) → g ≡ aimed.At p
-        → r ≡ putOf p (readValue (p .row) (getD vs (place p) (pos 0)) (take (length line - (q + 1)) (drop (q + 1) line))) → r ≡ ofShape t vs line (shape.Set o c q)
-    unfolding ofShape setOf aim
-    set-named p r h f = f ∙ rw (part-is line (o + 1) c, part-is line (c + 1) q, part-is line (q + 1) (length line), ← e, h)
+        → r ≡ putOf p (readValue (p .row) (getD vs (place p) (pos 0)) (take (length line - (q + 1)) (drop (q + 1) line)))
+        → r ≡ setOf vs (part line (q + 1) (length line)) (inRoom b (readIndices (part line (c + 1) q)))
+    unfolding setOf aim
+    set-named p r h f = f ∙ rw (part-is line (c + 1) q, part-is line (q + 1) (length line), ← e, h)
 
-    pub set-coded : (n : ℕ) → g ≡ aimed.Code n → Code n ≡ ofShape t vs line (shape.Set o c q)
-    unfolding ofShape setOf aim
-    set-coded n h = rw (part-is line (o + 1) c, part-is line (c + 1) q, ← e, h)
+    pub set-coded : (n : ℕ) → g ≡ aimed.Code n → Code n ≡ setOf vs (part line (q + 1) (length line)) (inRoom b (readIndices (part line (c + 1) q)))
+    unfolding setOf aim
+    set-coded n h = rw (part-is line (c + 1) q, ← e, h)
+
+pub seated-known : (vs : List ℤ) (b : Bearer) → Seated vs b → KnownBearer b
+seated-known vs b k = k .known
 
 pub ruleset get-rules = (get-named, get-coded)
 
-pub ruleset set-rules = (set-held, set-named, set-coded)
+pub ruleset set-rules = (seated-known, set-held, set-named, set-coded)
 
-module _ (t : List ℕ) (vs : List ℤ) (line : List ℕ) (s : Shape) (e : s ≡ shape line) where
-  pub malformed : s ≡ shape.Malformed → Code 99 ≡ meaning t vs line
-  unfolding meaning ofShape
-  malformed h = rw (sym e ∙ h)
-
+module _ (line : List ℕ) (s : Shape) (e : s ≡ shape line) where
   module _ (o c : ℕ) (h : s ≡ shape.Get o c) where
     pub get-label : o < c
     get-label = get-ordered line o c (sym e ∙ h) .ordered
 
     pub get-closed : c < length line
     get-closed = get-ordered line o c (sym e ∙ h) .ends
-
-    pub get-means : (r : Meaning) → r ≡ getOf (inRoom (bearer t (part line (o + 1) c)) (readIndices (part line (c + 1) (length line)))) → r ≡ meaning t vs line
-    unfolding meaning ofShape
-    get-means r g = g ∙ rw (sym e ∙ h)
 
   module _ (o c q : ℕ) (h : s ≡ shape.Set o c q) where
     pub set-label : o < c
@@ -188,8 +175,23 @@ module _ (t : List ℕ) (vs : List ℤ) (line : List ℕ) (s : Shape) (e : s ≡
     pub set-divided : q < length line
     set-divided = set-ordered line o c q (sym e ∙ h) .ends
 
-    pub set-means : (r : Meaning) → r ≡ ofShape t vs line (shape.Set o c q) → r ≡ meaning t vs line
-    unfolding meaning
-    set-means r g = g ∙ rw (sym e ∙ h)
+    pub set-closed : c < length line
+    set-closed = omega (arith, set-indices, set-divided)
 
-pub ruleset meaning-rules = (malformed, get-label, get-closed, get-means, set-label, set-indices, set-divided, set-means)
+pub ruleset places = (get-label, get-closed, set-label, set-indices, set-divided, set-closed)
+
+module _ (vs : List ℤ) (line : List ℕ) (b : Bearer) (s : Shape) where
+  pub malformed : s ≡ shape.Malformed → Code 99 ≡ ofShape vs line b s
+  unfolding ofShape
+  malformed h = rw h
+
+  pub get-means : (o c : ℕ) (r : Meaning) → s ≡ shape.Get o c → r ≡ getOf (inRoom b (readIndices (part line (c + 1) (length line)))) → r ≡ ofShape vs line b s
+  unfolding ofShape
+  get-means o c r h g = g ∙ rw h
+
+  pub set-means : (o c q : ℕ) (r : Meaning) → s ≡ shape.Set o c q
+      → r ≡ setOf vs (part line (q + 1) (length line)) (inRoom b (readIndices (part line (c + 1) q))) → r ≡ ofShape vs line b s
+  unfolding ofShape
+  set-means o c q r h g = g ∙ rw h
+
+pub ruleset meaning-rules = (places, seated-known, malformed, get-means, set-means)

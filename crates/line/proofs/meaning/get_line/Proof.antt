@@ -12,10 +12,6 @@ get-line-spec =
     (λ c. search (get-rules, needs))  -- sub-target-of
     (λ c. search (get-rules, needs))  -- part-target-of-start
     (λ c. search (get-rules, needs))  -- part-target-of-end
-    (λ c. search (get-rules, needs))  -- add-target-of-2
-    (λ c. search (get-rules, needs))  -- sub-target-of-2
-    (λ c. search (get-rules, needs))  -- part-target-of-start-2
-    (λ c. search (get-rules, needs))  -- part-target-of-end-2
     (λ c κs. search (get-rules, needs))  -- target-of-requires
     (λ c. search (get-rules, needs))  -- enum-known-p
     (λ c. search (get-rules, needs))  -- enum-known-n

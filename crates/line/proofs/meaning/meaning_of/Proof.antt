@@ -8,11 +8,10 @@ pub meaning-of-spec : {M : Type 1} → statement M
 meaning-of-spec =
     tie.close
     (tie.spec
-    (λ c κs. search (meaning-rules, needs))  -- shape-of-requires
     (λ c. search (meaning-rules, needs))  -- enum-told
-    (λ c. search (meaning-rules, needs))  -- enum-known-quote
+    (λ c. search (meaning-rules, needs))  -- enum-known-shape
     (λ c κs. search (meaning-rules, needs))  -- get-line-requires
-    (λ c. search (meaning-rules, needs))  -- enum-known-quote-2
+    (λ c. search (meaning-rules, needs))  -- enum-known-shape-2
     (λ c κs. search (meaning-rules, needs))  -- set-line-requires
     (λ c. search (meaning-rules, needs))  -- returns
     (λ c. search (meaning-rules, needs))  -- returns-2

@@ -12,10 +12,6 @@ set-line-spec =
     (λ c. search (set-rules, needs))  -- sub-target-of
     (λ c. search (set-rules, needs))  -- part-target-of-start
     (λ c. search (set-rules, needs))  -- part-target-of-end
-    (λ c. search (set-rules, needs))  -- add-target-of-2
-    (λ c. search (set-rules, needs))  -- sub-target-of-2
-    (λ c. search (set-rules, needs))  -- part-target-of-start-2
-    (λ c. search (set-rules, needs))  -- part-target-of-end-2
     (λ c κs. search (set-rules, needs))  -- target-of-requires
     (λ c. search (set-rules, needs))  -- enum-known-p
     (λ c. search (set-rules, needs))  -- add-put-meaning

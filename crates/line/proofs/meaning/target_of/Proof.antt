@@ -8,8 +8,7 @@ pub target-of-spec : {M : Type 1} → statement M
 target-of-spec =
     tie.close
     (tie.spec
-    (λ c κs. search (target-rules, needs))  -- find-bearer-requires
-    (λ c. search (target-rules, needs))  -- enum-known-m
+    (λ c. search (target-rules, needs))  -- enum-known-bearer
     (λ c κs. search (target-rules, needs))  -- indexed-requires
     (λ c. search (target-rules, needs))  -- enum-known-p
     (λ c. search (target-rules, needs))  -- enum-told

@@ -1,11 +1,11 @@
--- `answer_line`: by what the line means.
+-- `answer_shaped`: by what the line means.
 use borrow.Author.Needs.{needs}
 use Rattle.line.specs.Answer.Replying.{answering}
-use Rattle.line.proofs.answer.answer_line.Statement.{statement}
-use Rattle.line.proofs.answer.answer_line.Tie as tie
+use Rattle.line.proofs.answer.answer_shaped.Statement.{statement}
+use Rattle.line.proofs.answer.answer_shaped.Tie as tie
 
-pub answer-line-spec : {M : Type 1} → statement M
-answer-line-spec =
+pub answer-shaped-spec : {M : Type 1} → statement M
+answer-shaped-spec =
     tie.close
     (tie.spec
     (λ c κs. search (answering, needs))  -- meaning-of-requires
