@@ -9,11 +9,11 @@ use Prim.Native.Nat.{ℕ, zero, suc, _≤_}
 use lib.Dec.{eqb}
 use lib.IntN.{ℤ}
 use lib.ListN.{length, getD, drop}
-use Rattle.line.specs.Answer.{answer}
 use Rattle.syntax.specs.Shape.{lineLimit}
 use Rattle.serial_port.specs.Port.{View, view}
 use Rattle.serial_port.specs.Call.{Told, call, step}
 use Rattle.serial_port.specs.Refusal.{callNumber}
+use Rattle.serial_port.specs.Server.{controlSpace}
 use Rattle.serial_port.specs.declared.port.Port.{Port}
 
 -- the port that 66 bytes say: how many bytes it claims to hold, overrun (0 no, any other byte yes), and the held bytes with whatever follows them
@@ -31,8 +31,8 @@ unfoldable pub portTells : (number : ℕ) → (told : List ℕ) → List ℤ →
 portTells number told vs reply = record { number = number; told = told; values = vs; reply = reply }
 
 -- the two counts: bytes consumed, and the reply's length
-unfoldable pub counted : Told → PortAnswer
-counted c = portTells (c .number) (c .consumed ∷ c .sent ∷ []) (c .values) (c .buffer)
+unfoldable pub counted : Told (List ℤ) → PortAnswer
+counted c = portTells (c .number) (c .consumed ∷ c .sent ∷ []) (c .state) (c .buffer)
 
 -- the whole call but for the port's bytes; a refusal counts zero and changes nothing else
 unfoldable pub portAnswer : (table : List ℕ) → List ℤ → (port given reply : List ℕ) → PortAnswer
@@ -54,5 +54,5 @@ Left zero (b ∷ given) port v port′ = Stores v port′
 -- the promise of the port call: its answer, and the bytes of the port
 pub data PortCalled (t : List ℕ) (vs : List ℤ) (port given reply : List ℕ) (r : ℕ) (vs′ : List ℤ) (port′ reply′ told′ : List ℕ) : Type 0 where
   called : (answers : portTells r told′ vs′ reply′ ≡ portAnswer t vs port given reply)
-      → (left : Left (callNumber t vs (length reply) (portOf port .len)) given port (step (answer t) vs (view (portOf port)) given .port) port′)
+      → (left : Left (callNumber t vs (length reply) (portOf port .len)) given port (step (controlSpace t) vs (view (portOf port)) given .port) port′)
       → PortCalled t vs port given reply r vs′ port′ reply′ told′

@@ -22,7 +22,7 @@ use Rattle.port.specs.declared.standard_input.Came.the-variants.{Nothing
 -- and later ones stay. Left open, as for a call, are the held bytes of a port that has overrun, and what is stored past the held bytes
 pub data Answers (t : List ℕ) (vs : List ℤ) (p : Port) (bs out : List ℕ) (a : Answered) (vs′ : List ℤ) (out′ : List ℕ) : Type 0 where
   answers : (replies : Wrote out 0 (joined (flow t vs p bs .replies)) (a .sent) out′) → (room : a .sent ≤ length out)
-      → (values : vs′ ≡ flow t vs p bs .values) → (seen : view (a .port) ≡ flow t vs p bs .port) → (few : a .port .len ≤ 64)
+      → (values : vs′ ≡ flow t vs p bs .state) → (seen : view (a .port) ≡ flow t vs p bs .port) → (few : a .port .len ≤ 64)
       → Answers t vs p bs out a vs′ out′
 
 -- how many bytes came of a read
@@ -43,6 +43,6 @@ pub data AnswersRead (t : List ℕ) (vs : List ℤ) (p : Port) (input out : List
 -- read after read: the port and the values at the end are those of some bytes bs, and the values are right. Nothing came of the last read, or its
 -- replies could not be written, or else there were 2^64 bytes or more
 pub data AnswersAll (t : List ℕ) (vs : List ℤ) (p : Port) (r : Turn) (vs′ : List ℤ) : Type 0 where
-  answersAll : (bs : List ℕ) → (values : vs′ ≡ flow t vs p bs .values) → (right : valuesSound t vs′ ≡ true)
+  answersAll : (bs : List ℕ) → (values : vs′ ≡ flow t vs p bs .state) → (right : valuesSound t vs′ ≡ true)
       → (seen : view (r .port) ≡ flow t vs p bs .port) → (few : r .port .len ≤ 64)
       → (ended : (n : ℕ) → r .came ≡ Written n → 18446744073709551616 ≤ length bs) → AnswersAll t vs p r vs′

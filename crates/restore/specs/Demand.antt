@@ -27,7 +27,7 @@ use Rattle.restore.specs.declared.Restored.{Restored}
 -- played with a reply buffer of `replyRooms n` bytes for call n, it leaves chosen modules as wanted and every other parameter as it was
 pub record Fulfils (w : Wish) (replyRooms : ℕ → ℕ) (bs : List ℕ) : Type 0 where
   pub served : play (w .table) replyRooms (w .present) bs .refused ≡ false
-  pub reached : play (w .table) replyRooms (w .present) bs .values ≡ target w
+  pub reached : play (w .table) replyRooms (w .present) bs .state ≡ target w
 
 -- a shortest one of all byte sequences that fulfil the wish; no list with other numbers in it is shorter either
 pub record Shortest (w : Wish) (replyRooms : ℕ → ℕ) (list : List ℕ) : Type 0 where

@@ -12,63 +12,54 @@ use Prim.Native.Nat.{ℕ, zero, suc, _≤_}
 use lib.IntN.{ℤ}
 use lib.ListN.{length}
 use lib.Seq.{sets}
-use Rattle.text.specs.Cut.{has, indexOf, before}
 use Rattle.syntax.specs.Shape.{lineLimit}
-use Rattle.spelling.specs.Acknowledgement.{nak}
-use Rattle.line.specs.Answer.{Answer, answer}
+use Rattle.serial_port.specs.Server.{Reply, Server, controlSpace}
 use Rattle.serial_port.specs.Refusal.{callNumber}
-use Rattle.serial_port.specs.Port.{View, held, over, view, fresh, join}
+use Rattle.serial_port.specs.Port.{View, held, over, view, fresh, Gather, gather}
 use Rattle.serial_port.specs.declared.port.Port.{Port}
 use Rattle.serial_port.specs.declared.port.Called.{Called}
 
 -- what an accepted call does; the reply is empty where no line was finished
-pub record Step : Type 0 where
+pub record Step (S : Type 0) : Type 0 where
   pub port : View
   pub consumed : ℕ
   pub reply : List ℕ
-  pub values : List ℤ
+  pub state : S
 
--- how lines are answered: the reply to a line, and the values after it
-abbrev pub Answering : Type 0
-Answering = List ℤ → List ℕ → Answer
-
--- the one reply to a finished line; an overrun line gets 99 and changes nothing
-unfoldable pub finish : Answering → List ℤ → View → Answer
-finish answer vs (held l) = answer vs l
-finish answer vs over = record { reply = nak 99; values = vs }
+-- the one reply to a finished line
+unfoldable pub finish : {S : Type 0} → Server S → S → View → Reply S
+finish server s (held l) = server .line s l
+finish server s over = server .overrun s
 
 -- a finished line: the port is fresh again
-unfoldable pub replied : (consumed : ℕ) → Answer → Step
-replied consumed a = record { port = fresh; consumed = consumed; reply = a .reply; values = a .values }
+unfoldable pub replied : {S : Type 0} → (consumed : ℕ) → Reply S → Step S
+replied consumed a = record { port = fresh; consumed = consumed; reply = a .reply; state = a .state }
 
 -- without 0D there is no reply
-unfoldable pub waiting : List ℤ → (consumed : ℕ) → View → Step
-waiting vs consumed v = record { port = v; consumed = consumed; reply = []; values = vs }
+unfoldable pub waiting : {S : Type 0} → S → (consumed : ℕ) → View → Step S
+waiting s consumed v = record { port = v; consumed = consumed; reply = []; state = s }
 
--- what a call takes of the given bytes: through the first 0D, or all where there is none
-unfoldable pub step : Answering → List ℤ → View → List ℕ → Step
-step answer vs v bs =
-    cond (has 0x0D bs)
-    (replied (suc (indexOf 0x0D bs)) (finish answer vs (join v (before 0x0D bs))))
-    (waiting vs (length bs) (join v bs))
+-- what was gathered is served where it is a finished line, and held where it is not
+unfoldable pub served : {S : Type 0} → Server S → S → Gather → Step S
+served server s g = cond (g .finished) (replied (g .consumed) (finish server s (g .line))) (waiting s (g .consumed) (g .line))
 
--- what a call tells, and what it leaves in the values and in the reply buffer
-pub record Told : Type 0 where
+-- what a call does with the given bytes: it takes those through the first 0D, or all where there is none
+unfoldable pub step : {S : Type 0} → Server S → S → View → List ℕ → Step S
+step server s v bs = served server s (gather v bs)
+
+-- what a call tells, and what it leaves as the state and in the reply buffer
+pub record Told (S : Type 0) : Type 0 where
   pub number : ℕ
   pub consumed : ℕ
   pub sent : ℕ
-  pub values : List ℤ
+  pub state : S
   pub buffer : List ℕ
 
 -- the reply stands first in its buffer, and what is behind it stays; a refusal counts zero and changes nothing
-unfoldable pub tell : (number : ℕ) → List ℤ → (buffer : List ℕ) → Step → Told
-tell zero vs buffer s =
-    record { number = 0; consumed = s .consumed; sent = length (s .reply); values = s .values; buffer = sets buffer 0 (s .reply) }
-tell (suc n) vs buffer s = record { number = suc n; consumed = 0; sent = 0; values = vs; buffer = buffer }
-
--- the whole call, on the table t
-unfoldable pub call : (table : List ℕ) → List ℤ → Port → List ℕ → (buffer : List ℕ) → Told
-call t vs p bs buffer = tell (callNumber t vs (length buffer) (p .len)) vs buffer (step (answer t) vs (view p) bs)
+unfoldable pub tell : {S : Type 0} → (number : ℕ) → S → (buffer : List ℕ) → Step S → Told S
+tell zero s buffer x =
+    record { number = 0; consumed = x .consumed; sent = length (x .reply); state = x .state; buffer = sets buffer 0 (x .reply) }
+tell (suc n) s buffer x = record { number = suc n; consumed = 0; sent = 0; state = s; buffer = buffer }
 
 -- the port q that a call hands back: the given one on a refusal, else one that is seen as v and claims at most 64 bytes. Left open, as the rules leave it, are the held bytes
 -- of a port that has overrun, and what is stored past the held bytes
@@ -76,12 +67,20 @@ abbrev pub Handed : (number : ℕ) → Port → View → Port → Type 0
 Handed zero p v q = (view q ≡ v) × (q .len ≤ lineLimit)
 Handed (suc n) p v q = q ≡ p
 
--- what the answer c tells, with the values and the reply buffer as they are afterwards
-unfoldable pub tells : Called → (values : List ℤ) → (buffer : List ℕ) → Told
-tells c vs buffer = record { number = c .number; consumed = c .consumed; sent = c .sent; values = vs; buffer = buffer }
+-- what the answer c tells, with the state and the reply buffer as they are afterwards
+unfoldable pub tells : {S : Type 0} → Called → (state : S) → (buffer : List ℕ) → Told S
+tells c s buffer = record { number = c .number; consumed = c .consumed; sent = c .sent; state = s; buffer = buffer }
 
--- the promise of the port call: what it tells, and the port that it hands back
-pub data Answers (t : List ℕ) (vs : List ℤ) (p : Port) (bs buffer : List ℕ) (c : Called) (vs′ : List ℤ) (buffer′ : List ℕ) : Type 0 where
-  answers : (told : tells c vs′ buffer′ ≡ call t vs p bs buffer)
-      → (handed : Handed (callNumber t vs (length buffer) (p .len)) p (step (answer t) vs (view p) bs .port) (c .port))
-      → Answers t vs p bs buffer c vs′ buffer′
+-- the promise of every port call, whatever serves its lines and whatever number it is refused with (0 where it is not): what it tells, and the port that it hands back
+pub data Takes {S : Type 0} (server : Server S) (number : ℕ) (s : S) (p : Port) (bs buffer : List ℕ) (c : Called) (s′ : S) (buffer′ : List ℕ) : Type 0 where
+  takes : (told : tells c s′ buffer′ ≡ tell number s buffer (step server s (view p) bs))
+      → (handed : Handed number p (step server s (view p) bs .port) (c .port))
+      → Takes server number s p bs buffer c s′ buffer′
+
+-- what ControlSpace's call tells, on the table t
+unfoldable pub call : (table : List ℕ) → List ℤ → Port → List ℕ → (buffer : List ℕ) → Told (List ℤ)
+call t vs p bs buffer = tell (callNumber t vs (length buffer) (p .len)) vs buffer (step (controlSpace t) vs (view p) bs)
+
+-- the promise of ControlSpace's call: it serves the lines on the table t, and refuses with the number of `callNumber`
+abbrev pub Answers : (table : List ℕ) → List ℤ → Port → (bs buffer : List ℕ) → Called → List ℤ → (buffer′ : List ℕ) → Type 0
+Answers t vs p bs buffer c vs′ buffer′ = Takes (controlSpace t) (callNumber t vs (length buffer) (p .len)) vs p bs buffer c vs′ buffer′

@@ -3,4 +3,5 @@ pub mod Call
 pub mod Play
 pub mod Port
 pub mod Refusal
+pub mod Server
 pub mod Stream

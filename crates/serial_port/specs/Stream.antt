@@ -14,7 +14,7 @@ use lib.Dec.{ltb}
 use lib.ListN.{length, take, drop}
 use Rattle.text.specs.Written.{Wrote}
 use Rattle.syntax.specs.Shape.{lineLimit}
-use Rattle.line.specs.Answer.{answer}
+use Rattle.serial_port.specs.Server.{controlSpace}
 use Rattle.serial_port.specs.Port.{View, view}
 use Rattle.serial_port.specs.Call.{step}
 use Rattle.serial_port.specs.Refusal.{replyLimit}
@@ -28,8 +28,8 @@ joined [] = []
 joined (r ∷ rs) = r ++ joined rs
 
 -- what the consumed bytes do, fed to the port p and the values vs
-unfoldable pub flow : List ℕ → List ℤ → Port → List ℕ → Played
-flow t vs p bs = feed (answer t) (view p) vs bs
+unfoldable pub flow : List ℕ → List ℤ → Port → List ℕ → Played (List ℤ)
+flow t vs p bs = feed (controlSpace t) (view p) vs bs
 
 -- how many bytes are consumed by calls that are made one after the other while bytes are left and `room` has 64 bytes for a reply. A call that is given a byte consumes
 -- one or more, so no more calls are made than there are bytes
@@ -37,8 +37,8 @@ unfoldable pub consumes : (calls : ℕ) → List ℕ → List ℤ → View → (
 consumes zero t vs v bs room = 0
 consumes (suc calls) t vs v [] room = 0
 consumes (suc calls) t vs v (b ∷ bs) room =
-    let s = step (answer t) vs v (b ∷ bs) in
-    cond (ltb room replyLimit) 0 (s .consumed + consumes calls t (s .values) (s .port) (drop (s .consumed) (b ∷ bs)) (room - length (s .reply)))
+    let s = step (controlSpace t) vs v (b ∷ bs) in
+    cond (ltb room replyLimit) 0 (s .consumed + consumes calls t (s .state) (s .port) (drop (s .consumed) (b ∷ bs)) (room - length (s .reply)))
 
 -- the promise of serving bs: it consumes so many bytes, which give the replies at the start of `out`, the values and the port; later bytes of `out` stay.
 -- Left open, as for a call, are the held bytes of a port that has overrun, and what is stored past the held bytes
@@ -47,6 +47,6 @@ pub record Serves (t : List ℕ) (vs : List ℤ) (p : Port) (bs out : List ℕ) 
   pub within : s .consumed ≤ length bs
   pub room : s .sent ≤ length out
   pub replies : Wrote out 0 (joined (flow t vs p (take (s .consumed) bs) .replies)) (s .sent) out′
-  pub values : vs′ ≡ flow t vs p (take (s .consumed) bs) .values
+  pub values : vs′ ≡ flow t vs p (take (s .consumed) bs) .state
   pub seen : view (s .port) ≡ flow t vs p (take (s .consumed) bs) .port
   pub few : s .port .len ≤ lineLimit

@@ -16,8 +16,9 @@ ghost use Rattle.syntax.specs.Shape.{lineLimit};
 ghost use Rattle.values.specs.Values.{valuesSound};
 ghost use Rattle.serial_port.specs.Call.{Answers};
 ghost use Rattle.serial_port.specs.Call.Finishing.{Finishes};
-ghost use Rattle.serial_port.specs.Port.{fresh, view};
+ghost use Rattle.serial_port.specs.Port.{Gathers, fresh, view};
 ghost use Rattle.serial_port.specs.Refusal.{replyLimit};
+ghost use Rattle.serial_port.specs.Server.{controlSpace};
 ghost use Rattle.serial_port.specs.Port.Collecting.{Collects};
 
 // The bytes of the unfinished line, how many they are, and whether the line has overrun.
@@ -25,6 +26,13 @@ pub struct Port {
     pub held: [u8; Port::HELD],
     pub len: usize,
     pub overrun: bool,
+}
+
+// The port with the longer line, how many bytes were consumed, and whether they finished the line.
+pub struct Gathered {
+    pub port: Port,
+    pub consumed: usize,
+    pub finished: bool,
 }
 
 // The port handed back, how many bytes were consumed and how many sent as the reply, and the number of a refusal or 0.
@@ -86,6 +94,27 @@ impl Port {
         }
     }
 
+    // Collects the given bytes up to the first 0D, and tells whether there is one; no line is answered.
+    pub fn gather(self, given: &[u8]) -> Gathered
+        requires { ⌜ self .len ≤ 64 ⌝ }
+        ensures { λ r. ⌜ Gathers self (now (given .entry)) r ⌝ }
+    {
+        let end = find(given, 0x0D);
+        let port = self.collect(&given[..end]);
+        if end == given.len() {
+            return Gathered {
+                port: port,
+                consumed: end,
+                finished: false,
+            };
+        }
+        Gathered {
+            port: port,
+            consumed: end + 1,
+            finished: true,
+        }
+    }
+
     // Answers the line that was collected; an overrun one gets 99.
     fn finish(
         self,
@@ -96,7 +125,7 @@ impl Port {
     ) -> usize
         requires { ⌜ (sound (now table) ≡ true) × (now rows ≡ numbers) × (valuesSound (now table) (now values) ≡ true) ⌝ }
         requires { ⌜ (64 ≤ length (now reply)) × (self .len ≤ 64) ⌝ }
-        ensures { λ r. ⌜ Finishes (now (table .entry)) (now (values .entry)) self (now (reply .entry)) r (now (values .exit)) (now (reply .exit)) ⌝ }
+        ensures { λ r. ⌜ Finishes (controlSpace (now (table .entry))) (now (values .entry)) self (now (reply .entry)) r (now (values .exit)) (now (reply .exit)) ⌝ }
     {
         if self.overrun {
             return put_nak(reply, 99);
@@ -106,7 +135,7 @@ impl Port {
         answer_line(table, rows, values, &held[..len], reply)
     }
 
-    // A call to which no refusal applies: collects the given bytes up to the first 0D, and answers the line that it finishes.
+    // A call to which no refusal applies: gathers the given bytes, and answers the line that they finish.
     pub(crate) fn serve(
         self,
         table: &[u8],
@@ -119,12 +148,12 @@ impl Port {
         requires { ⌜ (64 ≤ length (now reply)) × (self .len ≤ 64) ⌝ }
         ensures { λ r. ⌜ Answers (now (table .entry)) (now (values .entry)) self (now (given .entry)) (now (reply .entry)) r (now (values .exit)) (now (reply .exit)) ⌝ }
     {
-        let end = find(given, 0x0D);
-        let port = self.collect(&given[..end]);
-        if end == given.len() {
+        let gathered = self.gather(given);
+        let port = gathered.port;
+        if !gathered.finished {
             return Called {
                 port: port,
-                consumed: end,
+                consumed: gathered.consumed,
                 sent: 0,
                 number: 0,
             };
@@ -133,7 +162,7 @@ impl Port {
         let next = Port::fresh();
         Called {
             port: next,
-            consumed: end + 1,
+            consumed: gathered.consumed,
             sent: sent,
             number: 0,
         }

@@ -15,8 +15,8 @@ use Rattle.text.specs.Cut.{indexOf}
 use Rattle.room.specs.Label.{same}
 use Rattle.room.specs.Table.{sound}
 use Rattle.values.specs.Starts.{starts}
-use Rattle.line.specs.Answer.{answer}
-use Rattle.serial_port.specs.Call.{Answering, step}
+use Rattle.serial_port.specs.Server.{Server, controlSpace}
+use Rattle.serial_port.specs.Call.{step}
 use Rattle.serial_port.specs.Port.{View, fresh, view}
 use Rattle.serial_port.specs.declared.port.Port.{Port}
 use Rattle.worked.specs.declared.play.Played.{Played}
@@ -38,11 +38,11 @@ pub record Turn : Type 0 where
   pub right : Bool
 
 -- the first line of a script is what a call of the port consumes; behind it, through the next 0D, stands the reply that the call must give
-unfoldable pub turn : Answering → List ℤ → View → (script : List ℕ) → Turn
-turn answer vs v script =
-    let s = step answer vs v script in
+unfoldable pub turn : Server (List ℤ) → List ℤ → View → (script : List ℕ) → Turn
+turn server vs v script =
+    let s = step server vs v script in
     let reply = through (drop (s .consumed) script) in
-    record { port = s .port; values = s .values; passed = s .consumed + length reply; right = same (s .reply) reply }
+    record { port = s .port; values = s .state; passed = s .consumed + length reply; right = same (s .reply) reply }
 
 -- a script played up to the first wrong answer: how many lines get the reply that it says, where it goes on behind them, and the values afterwards
 pub record Outcome : Type 0 where
@@ -51,18 +51,18 @@ pub record Outcome : Type 0 where
   pub values : List ℤ
 
 -- the rest of a script from `at` on, behind `right` lines. A line has a byte or more, so there are no more lines than bytes
-unfoldable pub playFrom : (lines : ℕ) → Answering → List ℤ → View → (right at : ℕ) → (rest : List ℕ) → Outcome
-playFrom zero answer vs v right at rest = record { right = right; at = at; values = vs }
-playFrom (suc lines) answer vs v right at [] = record { right = right; at = at; values = vs }
-playFrom (suc lines) answer vs v right at (b ∷ bs) =
-    let s = turn answer vs v (b ∷ bs) in
+unfoldable pub playFrom : (lines : ℕ) → Server (List ℤ) → List ℤ → View → (right at : ℕ) → (rest : List ℕ) → Outcome
+playFrom zero server vs v right at rest = record { right = right; at = at; values = vs }
+playFrom (suc lines) server vs v right at [] = record { right = right; at = at; values = vs }
+playFrom (suc lines) server vs v right at (b ∷ bs) =
+    let s = turn server vs v (b ∷ bs) in
     cond (s .right)
-    (playFrom lines answer (s .values) (s .port) (right + 1) (at + s .passed) (drop (s .passed) (b ∷ bs)))
+    (playFrom lines server (s .values) (s .port) (right + 1) (at + s .passed) (drop (s .passed) (b ∷ bs)))
     (record { right = right; at = at; values = s .values })
 
 -- the whole script, from a fresh port on
 unfoldable pub outcome : (table : List ℕ) → List ℤ → (script : List ℕ) → Outcome
-outcome t vs script = playFrom (length script) (answer t) vs fresh 0 0 script
+outcome t vs script = playFrom (length script) (controlSpace t) vs fresh 0 0 script
 
 -- its two counts
 unfoldable pub counted : Outcome → Tally
@@ -81,4 +81,4 @@ told r vs = record { right = r .right; at = r .at; values = vs }
 
 -- the promise of playing a line; left open, as for a call of the port, is what the port stores besides what it is seen as
 pub data Plays (t : List ℕ) (vs : List ℤ) (p : Port) (script : List ℕ) (r : Played) (vs′ : List ℤ) : Type 0 where
-  plays : (line : turned r vs′ ≡ turn (answer t) vs (view p) script) → (few : r .port .len ≤ 64) → Plays t vs p script r vs′
+  plays : (line : turned r vs′ ≡ turn (controlSpace t) vs (view p) script) → (few : r .port .len ≤ 64) → Plays t vs p script r vs′

@@ -5,12 +5,12 @@ use Prim.Native.Nat.{ℕ, zero, suc, _≤_}
 use native.Mathlib.Omega.{arith}
 use lib.IntN.{ℤ}
 use lib.ListN.{length}
-use Rattle.line.specs.Answer.{answer}
 use Rattle.syntax.specs.Shape.{lineLimit}
 use Rattle.serial_port.specs.Port.{View, view}
 use Rattle.serial_port.specs.Call.{Answers, step}
-use Rattle.serial_port.specs.Call.Telling.{told-field, number-by, refused-consumed, refused-sent, nothing-consumed, nothing-sent, seen-by, few-by}
+use Rattle.serial_port.specs.Call.Telling.{call-field, number-by, refused-consumed, refused-sent, nothing-consumed, nothing-sent, seen-by, few-by}
 use Rattle.serial_port.specs.Refusal.{callNumber}
+use Rattle.serial_port.specs.Server.{controlSpace}
 use Rattle.serial_port.specs.declared.port.Port.{Port}
 use Rattle.serial_port.specs.declared.port.Called.{Called}
 use Rattle.capi.specs.Port.{Left, PortCalled, Stores, called, counted, portAnswer, portOf, portTells}
@@ -43,7 +43,7 @@ module _ (t : List ℕ) (vs : List ℤ) (port given reply : List ℕ) (p : Port)
 
   answered : portTells (c .number) (c .consumed ∷ c .sent ∷ []) vs′ reply′ ≡ portAnswer t vs port given reply
   unfolding portAnswer counted
-  answered = told-field made counted
+  answered = call-field t vs (portOf port) given reply made counted
 
   number-is : callNumber t vs (length reply) (portOf port .len) ≡ c .number
   number-is = sym (number-by made)
@@ -53,7 +53,7 @@ module _ (t : List ℕ) (vs : List ℤ) (port given reply : List ℕ) (p : Port)
   call-refused x y h u v =
       called
       (rw (u ∙ sym (refused-consumed a h), v ∙ sym (refused-sent a h)) answered)
-      (rw number-is (left-refused (c .number) given port (step (answer t) vs (view (portOf port)) given .port) h))
+      (rw number-is (left-refused (c .number) given port (step (controlSpace t) vs (view (portOf port)) given .port) h))
 
   module _ (z : c .number ≡ 0) where
     answered-served : portTells 0 (c .consumed ∷ c .sent ∷ []) vs′ reply′ ≡ portAnswer t vs port given reply
@@ -67,12 +67,12 @@ module _ (t : List ℕ) (vs : List ℤ) (port given reply : List ℕ) (p : Port)
     call-nothing x y h u v =
         called
         (rw (u ∙ sym (nothing-consumed a z h), v ∙ sym (nothing-sent a z h)) answered-served)
-        (left-nothing (callNumber t vs (length reply) (portOf port .len)) given port (step (answer t) vs (view (portOf port)) given .port) h)
+        (left-nothing (callNumber t vs (length reply) (portOf port .len)) given port (step (controlSpace t) vs (view (portOf port)) given .port) h)
 
     pub call-stored : (port′ : List ℕ) → (length given ≡ 0 → ⊥) → port′ ≡ bytesOf (c .port)
         → PortCalled t vs port given reply 0 vs′ port′ reply′ (c .consumed ∷ c .sent ∷ [])
     call-stored port′ h b =
-        let v = step (answer t) vs (view (portOf port)) given .port in
+        let v = step (controlSpace t) vs (view (portOf port)) given .port in
         called answered-served (rw (number-is ∙ z, b) (left-stored given port v (bytesOf (c .port)) h (stored (c .port) v (seen-by made z) (few-by made z))))
 
 pub ruleset calling = (call-refused, call-few, call-nothing, call-stored, refused-consumed, refused-sent, nothing-consumed, nothing-sent)

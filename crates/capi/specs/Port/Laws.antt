@@ -4,13 +4,13 @@ use mathlib.Core.List.{List, [], _∷_}
 use Prim.Native.Nat.{ℕ, suc, _≤_}
 use lib.IntN.{ℤ}
 use lib.ListN.{length, getD, replicate}
-use Rattle.line.specs.Answer.{answer}
 use Rattle.syntax.specs.Shape.{lineLimit}
 use Rattle.serial_port.specs.Port.{fresh, view}
 use Rattle.serial_port.specs.Port.Seen.{seen-fresh}
 use Rattle.serial_port.specs.Call.{step}
 use Rattle.serial_port.specs.Call.Telling.{call-number, refused-told, nothing-told, nothing-seen, served-claim}
 use Rattle.serial_port.specs.Refusal.{callNumber}
+use Rattle.serial_port.specs.Server.{controlSpace}
 use Rattle.capi.specs.Port.{Left, PortCalled, called, counted, portAnswer, portOf, portTells}
 
 -- 66 zero bytes are the fresh port
@@ -41,7 +41,7 @@ module _ {t : List ℕ} {vs : List ℤ} {port given reply : List ℕ} {r : ℕ} 
   answers-by (called answers left) = answers
 
   pub left-by : PortCalled t vs port given reply r vs′ port′ reply′ told′
-      → Left (callNumber t vs (length reply) (portOf port .len)) given port (step (answer t) vs (view (portOf port)) given .port) port′
+      → Left (callNumber t vs (length reply) (portOf port .len)) given port (step (controlSpace t) vs (view (portOf port)) given .port) port′
   left-by (called answers left) = left
 
 -- ---- the port's bytes
@@ -57,11 +57,11 @@ module _ {t : List ℕ} {vs : List ℤ} {port given reply : List ℕ} {r : ℕ} 
   refused-bytes n e = let l = left-by c in rw (number-by ∙ e) at l
 
   -- an accepted call leaves a port that is seen as the call says, also where it is given no bytes, and that claims at most 64
-  pub served-seen : r ≡ 0 → (view (portOf port′) ≡ step (answer t) vs (view (portOf port)) given .port) × (portOf port′ .len ≤ lineLimit)
+  pub served-seen : r ≡ 0 → (view (portOf port′) ≡ step (controlSpace t) vs (view (portOf port)) given .port) × (portOf port′ .len ≤ lineLimit)
   served-seen z = let l = left-by c in go given refl (rw (number-by ∙ z) at l)
     where
-      go : (bs : List ℕ) → given ≡ bs → Left 0 bs port (step (answer t) vs (view (portOf port)) given .port) port′
-          → (view (portOf port′) ≡ step (answer t) vs (view (portOf port)) given .port) × (portOf port′ .len ≤ lineLimit)
+      go : (bs : List ℕ) → given ≡ bs → Left 0 bs port (step (controlSpace t) vs (view (portOf port)) given .port) port′
+          → (view (portOf port′) ≡ step (controlSpace t) vs (view (portOf port)) given .port) × (portOf port′ .len ≤ lineLimit)
       go [] e l = (
         rw (l, e) (sym (nothing-seen t vs (portOf port) reply (number-by ∙ z))),
         rw l (served-claim t vs (length reply) (portOf port .len) (number-by ∙ z)),

@@ -29,7 +29,7 @@ unwritten-written e w = let x : _≡_ {A = ℕ} 0 1 = cc in omega arith
 
 -- bs were fed to the port p and the values vs, and left vs′ and q
 pub record Fed (t : List ℕ) (vs : List ℤ) (p : Port) (bs : List ℕ) (vs′ : List ℤ) (q : Port) : Type 0 where
-  pub values : vs′ ≡ flow t vs p bs .values
+  pub values : vs′ ≡ flow t vs p bs .state
   pub right : valuesSound t vs′ ≡ true
   pub seen : view q ≡ flow t vs p bs .port
   pub few : q .len ≤ 64

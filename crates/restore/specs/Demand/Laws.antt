@@ -11,14 +11,14 @@ use lib.IntN.{pos}
 use lib.ListN.{length, getD}
 use lib.Seq.{sets}
 use Rattle.values.specs.Parameters.{parameters}
-use Rattle.line.specs.Answer.{answer}
+use Rattle.serial_port.specs.Server.{controlSpace}
 use Rattle.serial_port.specs.Port.{fresh}
 use Rattle.serial_port.specs.Port.Laws.{fresh-few}
 use Rattle.serial_port.specs.Refusal.{replyLimit}
 use Rattle.serial_port.specs.Call.Laws.{written-first}
 use Rattle.serial_port.specs.Play.{play, feed}
 use Rattle.serial_port.specs.Play.Acknowledged.{acknowledged}
-use Rattle.serial_port.specs.Play.Kept.{feed-keeps, bound}
+use Rattle.serial_port.specs.Play.Kept.{answers-lower, feed-keeps, bound}
 use Rattle.serial_port.specs.Play.Laws.{Right, keeps-right, plays}
 use Rattle.wish.specs.Target.{Wish, target}
 use Rattle.wish.specs.Target.Laws.{target-right}
@@ -42,7 +42,7 @@ unfoldable pub list : Wish → List ℕ
 list w = listing (w .table) (changes w)
 
 module _ (w : Wish) (lines : Lines (w .table)) (admitted : Admitted w) (replyRooms : ℕ → ℕ) (enough : (call : ℕ) → replyLimit ≤ replyRooms call) where
-  played : (bs : List ℕ) → play (w .table) replyRooms (w .present) bs ≡ feed (answer (w .table)) fresh (w .present) bs
+  played : (bs : List ℕ) → play (w .table) replyRooms (w .present) bs ≡ feed (controlSpace (w .table)) fresh (w .present) bs
   played bs = plays (w .table) (admitted .table) replyRooms enough (w .present) bs (admitted .present)
 
   target-is-right : Right (w .table) (target w)
@@ -50,16 +50,16 @@ module _ (w : Wish) (lines : Lines (w .table)) (admitted : Admitted w) (replyRoo
 
   -- ---- no sequence that fulfils the wish is shorter than the list
 
-  ends-at : (bs : List ℕ) → Fulfils w replyRooms bs → feed (answer (w .table)) fresh (w .present) bs .values ≡ target w
-  ends-at bs f = ap (λ p. p .values) (sym (played bs)) ∙ f .reached
+  ends-at : (bs : List ℕ) → Fulfils w replyRooms bs → feed (controlSpace (w .table)) fresh (w .present) bs .state ≡ target w
+  ends-at bs f = ap (λ p. p .state) (sym (played bs)) ∙ f .reached
 
   least : (bs : List ℕ) → Fulfils w replyRooms bs → length (list w) ≤ length bs
   unfolding list
   least bs f =
       let t = w .table in
       let kept = keeps-right t (admitted .table) in
-      let b = bound (answer t) (Right t) kept (potential t (target w)) (lowers t lines (target w)) (w .present) bs (admitted .present) in
-      let e : potential t (target w) (feed (answer t) fresh (w .present) bs .values) ≡ 0 = rw (ends-at bs f) (price-reached t (parameters t) (target w)) in
+      let b = bound (controlSpace t) (Right t) kept (potential t (target w)) (answers-lower t (Right t) (potential t (target w)) (lowers t lines (target w))) (w .present) bs (admitted .present) in
+      let e : potential t (target w) (feed (controlSpace t) fresh (w .present) bs .state) ≡ 0 = rw (ends-at bs f) (price-reached t (parameters t) (target w)) in
       omega (arith, b, e, price-listing t (wish-differ w admitted))
 
   -- ---- where no change is beyond reach, the list fulfils the wish
@@ -76,7 +76,7 @@ module _ (w : Wish) (lines : Lines (w .table)) (admitted : Admitted w) (replyRoo
   shortest r =
       record {
         bytes = listing-bytes (w .table) lines (changes w) (all-sayable w admitted r);
-        fulfils = record { served = ap (λ p. p .refused) (listed r); reached = ap (λ p. p .values) (listed r) };
+        fulfils = record { served = ap (λ p. p .refused) (listed r); reached = ap (λ p. p .state) (listed r) };
         least = least;
       }
 
@@ -88,7 +88,7 @@ module _ (w : Wish) (lines : Lines (w .table)) (admitted : Admitted w) (replyRoo
       let b = wish-beyond w r in
       let v = getD (w .present) (b .number) (pos 0) in
       let kept = keeps-unreachable t lines (b .number) (b .parameter) v (b .found) (b .blocked) in
-      let stays = feed-keeps (answer t) (Stays (b .number) v) kept fresh (w .present) bs fresh-few refl in
+      let stays = feed-keeps (controlSpace t) (Stays (b .number) v) kept fresh (w .present) bs fresh-few refl in
       b .differs (sym stays ∙ ap (λ vs. getD vs (b .number) (pos 0)) (ends-at bs f))
 
   -- ---- the answer

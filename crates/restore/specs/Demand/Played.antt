@@ -11,8 +11,10 @@ use Rattle.text.specs.Byte.Laws.{is-byte}
 use Rattle.text.specs.Every.{every}
 use Rattle.text.specs.Every.Laws.{every-append, every-more, every-nil}
 use Rattle.values.specs.Parameters.{place}
+use Rattle.spelling.specs.Acknowledgement.{ack}
 use Rattle.spelling.specs.Say.{say}
-use Rattle.line.specs.Answer.{answer}
+use Rattle.serial_port.specs.Server.{controlSpace}
+use Rattle.serial_port.specs.Server.Laws.{line-served}
 use Rattle.serial_port.specs.Port.{fresh}
 use Rattle.serial_port.specs.Play.{feed}
 use Rattle.serial_port.specs.Play.Acknowledged.{acknowledged, line-acknowledged, none-acknowledged}
@@ -35,11 +37,12 @@ module _ (t : List ℕ) (lines : Lines t) where
       (every-more isByte 0x0D (listing t cs) (is-byte 0x0D (omega arith)) (listing-bytes cs (s .1))))
 
   pub play-listing : (cs : List Change) (vs : List ℤ) → AllOf (Sayable t) cs
-      → feed (answer t) fresh vs (listing t cs) ≡ acknowledged (length cs) (made cs vs)
-  play-listing [] vs s = rw (listing-none t) (none-acknowledged (answer t) vs)
+      → feed (controlSpace t) fresh vs (listing t cs) ≡ acknowledged (length cs) (made cs vs)
+  play-listing [] vs s = rw (listing-none t) (none-acknowledged (controlSpace t) vs)
   play-listing (c ∷ cs) vs s =
       let said = saying c (s .0) in
       let after = set vs (place (c .parameter)) (c .target) in
+      let line = say t (c .parameter) (c .present) (c .target) in
       rw (listing-first t c cs)
-      (line-acknowledged (answer t) vs after (made cs after) (say t (c .parameter) (c .present) (c .target)) (listing t cs) (length cs)
-      (said .fits) (said .whole) (said .answered vs) (play-listing cs after (s .1)))
+      (line-acknowledged (controlSpace t) vs after (made cs after) line (listing t cs) (length cs)
+      (said .fits) (said .whole) (line-served t vs line ack after (said .answered vs)) (play-listing cs after (s .1)))

@@ -13,66 +13,70 @@ use Rattle.text.specs.Written.{Wrote, wrote}
 use Rattle.room.specs.Table.{sound}
 use Rattle.values.specs.Values.{valuesSound}
 use Rattle.syntax.specs.Shape.{lineLimit}
-use Rattle.line.specs.Answer.{answer}
+use Rattle.serial_port.specs.Server.{Server, controlSpace}
 use Rattle.serial_port.specs.Port.{View, view, join}
-use Rattle.serial_port.specs.Call.{Answering, step, replied, waiting, tell, call, tells, Handed, Answers}
+use Rattle.serial_port.specs.Call.{step, replied, waiting, tell, tells, Takes, Answers}
 use Rattle.serial_port.specs.Refusal.{replyLimit}
 use Rattle.serial_port.specs.Call.Laws.{step-finishes, step-waits, reply-fits, told-by, handed-by}
 use Rattle.serial_port.specs.Refusal.Laws.{accepted}
 use Rattle.serial_port.specs.declared.port.Port.{Port}
 use Rattle.serial_port.specs.declared.port.Called.{Called}
 
--- its reply in the reply buffer, the values, the port, and what it consumed
-pub record Accepted (t : List ℕ) (vs : List ℤ) (p : Port) (bs buffer : List ℕ) (c : Called) (vs′ : List ℤ) (buffer′ : List ℕ) : Type 0 where
-  pub reply : Wrote buffer 0 (step (answer t) vs (view p) bs .reply) (c .sent) buffer′
-  pub values : vs′ ≡ step (answer t) vs (view p) bs .values
-  pub seen : view (c .port) ≡ step (answer t) vs (view p) bs .port
+-- its reply in the reply buffer, the state, the port, and what it consumed
+pub record Accepted {S : Type 0} (server : Server S) (s : S) (p : Port) (bs buffer : List ℕ) (c : Called) (s′ : S) (buffer′ : List ℕ) : Type 0 where
+  pub reply : Wrote buffer 0 (step server s (view p) bs .reply) (c .sent) buffer′
+  pub state : s′ ≡ step server s (view p) bs .state
+  pub seen : view (c .port) ≡ step server s (view p) bs .port
   pub few : c .port .len ≤ lineLimit
-  pub consumed : c .consumed ≡ step (answer t) vs (view p) bs .consumed
+  pub consumed : c .consumed ≡ step server s (view p) bs .consumed
 
--- a call to which no refusal applies is accepted
-pub accept : (t : List ℕ) (vs : List ℤ) (p : Port) (bs buffer : List ℕ) (c : Called) (vs′ : List ℤ) (buffer′ : List ℕ)
-    → sound t ≡ true → valuesSound t vs ≡ true → replyLimit ≤ length buffer → p .len ≤ lineLimit
-    → Answers t vs p bs buffer c vs′ buffer′ → Accepted t vs p bs buffer c vs′ buffer′
-unfolding call tells tell
-accept t vs p bs buffer c vs′ buffer′ s r h k a =
-    let z = accepted t vs (length buffer) (p .len) s r h k in
-    let handed : Handed 0 p (step (answer t) vs (view p) bs .port) (c .port) = rw z at (handed-by a) in
-    let told = rw z at (told-by a) in
+-- a call with the number 0 is accepted
+pub accept : {S : Type 0} (server : Server S) (s : S) (p : Port) (bs buffer : List ℕ) (c : Called) (s′ : S) (buffer′ : List ℕ)
+    → Takes server 0 s p bs buffer c s′ buffer′ → Accepted server s p bs buffer c s′ buffer′
+unfolding tells tell
+accept server s p bs buffer c s′ buffer′ a =
+    let told = told-by a in
     record {
-      reply = wrote (ap (λ x. x .sent) told ∙ sym (zero-add (length (step (answer t) vs (view p) bs .reply)))) (ap (λ x. x .buffer) told);
-      values = ap (λ x. x .values) told;
-      seen = handed .0;
-      few = handed .1;
+      reply = wrote (ap (λ x. x .sent) told ∙ sym (zero-add (length (step server s (view p) bs .reply)))) (ap (λ x. x .buffer) told);
+      state = ap (λ x. x .state) told;
+      seen = handed-by a .0;
+      few = handed-by a .1;
       consumed = ap (λ x. x .consumed) told;
     }
 
+-- so is one of ControlSpace to which no refusal applies
+pub answer-accept : (t : List ℕ) (vs : List ℤ) (p : Port) (bs buffer : List ℕ) (c : Called) (vs′ : List ℤ) (buffer′ : List ℕ)
+    → sound t ≡ true → valuesSound t vs ≡ true → replyLimit ≤ length buffer → p .len ≤ lineLimit
+    → Answers t vs p bs buffer c vs′ buffer′ → Accepted (controlSpace t) vs p bs buffer c vs′ buffer′
+answer-accept t vs p bs buffer c vs′ buffer′ s r h k a =
+    accept (controlSpace t) vs p bs buffer c vs′ buffer′ (rw (accepted t vs (length buffer) (p .len) s r h k) at a)
+
 -- ---- how much is consumed, and how long the reply is
 
-module _ (answer : Answering) (v : View) (vs : List ℤ) (bs : List ℕ) where
-  pub consumed-most : step answer vs v bs .consumed ≤ length bs
+module _ {S : Type 0} (server : Server S) (v : View) (s : S) (bs : List ℕ) where
+  pub consumed-most : step server s v bs .consumed ≤ length bs
   unfolding replied waiting
   consumed-most = go (has 0x0D bs) refl
     where
-      go : (t : Bool) → has 0x0D bs ≡ t → step answer vs v bs .consumed ≤ length bs
-      go true e = rw (step-finishes answer vs v bs e) (omega (arith, has-within 0x0D bs e))
-      go false e = rw (step-waits answer vs v bs e) (omega arith)
+      go : (t : Bool) → has 0x0D bs ≡ t → step server s v bs .consumed ≤ length bs
+      go true e = rw (step-finishes server s v bs e) (omega (arith, has-within 0x0D bs e))
+      go false e = rw (step-waits server s v bs e) (omega arith)
 
   -- a call that is given a byte consumes one or more
-  pub consumed-some : 1 ≤ length bs → 1 ≤ step answer vs v bs .consumed
+  pub consumed-some : 1 ≤ length bs → 1 ≤ step server s v bs .consumed
   unfolding replied waiting
   consumed-some h = go (has 0x0D bs) refl
     where
-      go : (t : Bool) → has 0x0D bs ≡ t → 1 ≤ step answer vs v bs .consumed
-      go true e = rw (step-finishes answer vs v bs e) (omega arith)
-      go false e = rw (step-waits answer vs v bs e) h
+      go : (t : Bool) → has 0x0D bs ≡ t → 1 ≤ step server s v bs .consumed
+      go true e = rw (step-finishes server s v bs e) (omega arith)
+      go false e = rw (step-waits server s v bs e) h
 
--- the reply of any step fits 64 bytes
+-- the reply of any step of ControlSpace fits 64 bytes
 pub step-fits : (t : List ℕ) (vs : List ℤ) (v : View) (bs : List ℕ) → sound t ≡ true → valuesSound t vs ≡ true
-    → length (step (answer t) vs v bs .reply) ≤ 64
+    → length (step (controlSpace t) vs v bs .reply) ≤ 64
 unfolding replied waiting replyLimit
 step-fits t vs v bs s r = go (has 0x0D bs) refl
   where
-    go : (b : Bool) → has 0x0D bs ≡ b → length (step (answer t) vs v bs .reply) ≤ 64
-    go true e = rw (step-finishes (answer t) vs v bs e) (reply-fits t vs (join v (before 0x0D bs)) s r)
-    go false e = rw (step-waits (answer t) vs v bs e) (omega arith)
+    go : (b : Bool) → has 0x0D bs ≡ b → length (step (controlSpace t) vs v bs .reply) ≤ 64
+    go true e = rw (step-finishes (controlSpace t) vs v bs e) (reply-fits t vs (join v (before 0x0D bs)) s r)
+    go false e = rw (step-waits (controlSpace t) vs v bs e) (omega arith)

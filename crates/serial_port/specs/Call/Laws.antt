@@ -13,12 +13,13 @@ use Rattle.room.specs.Table.{sound}
 use Rattle.values.specs.Values.{valuesSound}
 use Rattle.syntax.specs.Shape.{lineLimit}
 use Rattle.spelling.specs.Acknowledgement.Laws.{nak-length}
-use Rattle.line.specs.Answer.{answer}
 use Rattle.line.specs.Answer.Replies.{reply-limit}
 use Rattle.line.specs.Answer.Sent.{reply-some}
-use Rattle.serial_port.specs.Port.{View, held, over, view, Same, claim, join}
+use Rattle.serial_port.specs.Server.{Server, controlSpace}
+use Rattle.serial_port.specs.Server.Laws.{line-reply, overrun-reply}
+use Rattle.serial_port.specs.Port.{View, held, over, view, Same, claim, join, gather}
 use Rattle.serial_port.specs.Port.Laws.{join-nothing, same-seen, seen-same}
-use Rattle.serial_port.specs.Call.{Answering, step, replied, waiting, finish, call, tells, Handed, Answers, answers}
+use Rattle.serial_port.specs.Call.{step, served, replied, waiting, finish, tell, tells, call, Handed, Takes, takes, Answers}
 use Rattle.serial_port.specs.Refusal.{replyLimit, callNumber}
 use Rattle.serial_port.specs.Refusal.Laws.{refused-alike}
 use Rattle.serial_port.specs.declared.port.Port.{Port}
@@ -26,27 +27,28 @@ use Rattle.serial_port.specs.declared.port.Called.{Called}
 
 -- ---- the two parts of the promise
 
-module _ {t : List ℕ} {vs : List ℤ} {p : Port} {bs buffer : List ℕ} {c : Called} {vs′ : List ℤ} {buffer′ : List ℕ} where
-  pub told-by : Answers t vs p bs buffer c vs′ buffer′ → tells c vs′ buffer′ ≡ call t vs p bs buffer
-  told-by (answers told handed) = told
+module _ {S : Type 0} {server : Server S} {number : ℕ} {s : S} {p : Port} {bs buffer : List ℕ} {c : Called} {s′ : S} {buffer′ : List ℕ} where
+  pub told-by : Takes server number s p bs buffer c s′ buffer′ → tells c s′ buffer′ ≡ tell number s buffer (step server s (view p) bs)
+  told-by (takes told handed) = told
 
-  pub handed-by : Answers t vs p bs buffer c vs′ buffer′ → Handed (callNumber t vs (length buffer) (p .len)) p (step (answer t) vs (view p) bs .port) (c .port)
-  handed-by (answers told handed) = handed
+  pub handed-by : Takes server number s p bs buffer c s′ buffer′ → Handed number p (step server s (view p) bs .port) (c .port)
+  handed-by (takes told handed) = handed
 
--- the two kinds of call
-pub step-finishes : (answer : Answering) (vs : List ℤ) (v : View) (bs : List ℕ) → has 0x0D bs ≡ true
-    → step answer vs v bs ≡ replied (suc (indexOf 0x0D bs)) (finish answer vs (join v (before 0x0D bs)))
-unfolding step
-step-finishes answer vs v bs h = rw h refl
+-- ---- the two kinds of call
 
-pub step-waits : (answer : Answering) (vs : List ℤ) (v : View) (bs : List ℕ) → has 0x0D bs ≡ false
-    → step answer vs v bs ≡ waiting vs (length bs) (join v bs)
-unfolding step
-step-waits answer vs v bs h = rw h refl
+module _ {S : Type 0} (server : Server S) (s : S) (v : View) where
+  pub step-finishes : (bs : List ℕ) → has 0x0D bs ≡ true
+      → step server s v bs ≡ replied (suc (indexOf 0x0D bs)) (finish server s (join v (before 0x0D bs)))
+  unfolding step served gather
+  step-finishes bs h = rw h refl
 
--- zero bytes given change nothing
-pub step-nothing : (answer : Answering) (vs : List ℤ) (v : View) → claim v ≤ lineLimit → step answer vs v [] ≡ waiting vs 0 v
-step-nothing answer vs v h = rw (step-waits answer vs v [] (has-nothing 0x0D), join-nothing v h) refl
+  pub step-waits : (bs : List ℕ) → has 0x0D bs ≡ false → step server s v bs ≡ waiting s (length bs) (join v bs)
+  unfolding step served gather
+  step-waits bs h = rw h refl
+
+  -- zero bytes given change nothing
+  pub step-nothing : claim v ≤ lineLimit → step server s v [] ≡ waiting s 0 v
+  step-nothing h = rw (step-waits [] (has-nothing 0x0D), join-nothing v h) refl
 
 -- ---- the reply
 
@@ -54,18 +56,18 @@ step-nothing answer vs v h = rw (step-waits answer vs v [] (has-nothing 0x0D), j
 pub written-first : (buffer l : List ℕ) → length l ≤ length buffer → take (length l) (sets buffer 0 l) ≡ l
 written-first buffer l h = rw (sets-eq l buffer 0 (omega arith)) (take-at l (drop (0 + length l) buffer) (length l) refl)
 
--- every reply fits a buffer of 64 bytes
+-- every reply of ControlSpace fits a buffer of 64 bytes
 pub reply-fits : (t : List ℕ) (vs : List ℤ) (v : View) → sound t ≡ true → valuesSound t vs ≡ true
-    → length (finish (answer t) vs v .reply) ≤ replyLimit
+    → length (finish (controlSpace t) vs v .reply) ≤ replyLimit
 unfolding finish replyLimit
-reply-fits t vs (held l) s r = omega (arith, reply-limit t vs l s r)
-reply-fits t vs over s r = omega (arith, nak-length 99)
+reply-fits t vs (held l) s r = rw (line-reply t vs l) (omega (arith, reply-limit t vs l s r))
+reply-fits t vs over s r = rw (overrun-reply t vs) (omega (arith, nak-length 99))
 
 -- and has a byte or more
-pub reply-sent : (t : List ℕ) (vs : List ℤ) (v : View) → sound t ≡ true → valuesSound t vs ≡ true → 1 ≤ length (finish (answer t) vs v .reply)
+pub reply-sent : (t : List ℕ) (vs : List ℤ) (v : View) → sound t ≡ true → valuesSound t vs ≡ true → 1 ≤ length (finish (controlSpace t) vs v .reply)
 unfolding finish
-reply-sent t vs (held l) s r = reply-some t vs l s r
-reply-sent t vs over s r = omega (arith, nak-length 99)
+reply-sent t vs (held l) s r = rw (line-reply t vs l) (reply-some t vs l s r)
+reply-sent t vs over s r = rw (overrun-reply t vs) (omega (arith, nak-length 99))
 
 -- ---- ports that count as the same
 
@@ -85,7 +87,7 @@ pub same-handed : (t : List ℕ) (vs : List ℤ) (p p′ : Port) (bs buffer : Li
     → Same (c .port) (c′ .port)
 same-handed t vs p p′ bs buffer h k s c c′ vs′ vs″ buffer′ buffer″ a b =
     let number = callNumber t vs (length buffer) (p .len) in
-    let seen = step (answer t) vs (view p) bs .port in
+    let seen = step (controlSpace t) vs (view p) bs .port in
     let handed : Handed number p′ seen (c′ .port) =
     rw (same-seen p p′ s, refused-alike t vs (length buffer) (p .len) (p′ .len) h k) (handed-by b) in
     handed-alike number seen p p′ (c .port) (c′ .port) s (handed-by a) handed

@@ -1,8 +1,8 @@
 -- Playing is feeding byte by byte: over a sound table and right values no call of it is refused.
 use mathlib.Core.Path.{_≡_, refl, sym, _∙_, ap}
 use mathlib.Core.Bool.{Bool, true, false}
-use mathlib.Core.List.{List, [], _∷_}
-use Prim.Native.Nat.{ℕ, zero, suc, _≤_}
+use mathlib.Core.List.{List, [], _∷_, _++_}
+use Prim.Native.Nat.{ℕ, zero, suc, _≤_, _<_}
 use native.Mathlib.Omega.{arith}
 use lib.IntN.{ℤ}
 use lib.ListN.{length, length-drop}
@@ -10,65 +10,67 @@ use lib.Seq.{drop-length}
 use Rattle.text.specs.Cut.{has, before, after}
 use Rattle.text.specs.Cut.Found.{after-drop}
 use Rattle.syntax.specs.Shape.{lineLimit}
-use Rattle.line.specs.Answer.{answer}
+use Rattle.spelling.specs.Acknowledgement.{nak}
 use Rattle.line.specs.Answer.Laws.{values-stay-sound}
 use Rattle.room.specs.Table.{sound}
 use Rattle.values.specs.Values.{valuesSound}
+use Rattle.serial_port.specs.Server.{Server, controlSpace}
+use Rattle.serial_port.specs.Server.Laws.{overrun-reply, overrun-state}
 use Rattle.serial_port.specs.Port.{View, fresh, claim, join}
 use Rattle.serial_port.specs.Port.Laws.{fresh-few, claim-join}
-use Rattle.serial_port.specs.Call.{Answering, finish, replied, waiting}
+use Rattle.serial_port.specs.Call.{finish, replied, waiting}
 use Rattle.serial_port.specs.Refusal.{replyLimit}
 use Rattle.serial_port.specs.Call.Laws.{step-finishes, step-waits}
 use Rattle.serial_port.specs.Refusal.Laws.{accepted}
 use Rattle.serial_port.specs.Play.{replyFirst, first, playFrom, refusal, play, feed}
-use Rattle.serial_port.specs.Play.Feed.{finished, feed-waits, feed-finishes, feed-serves}
-use Rattle.serial_port.specs.Play.Kept.{Keeps, finish-keeps}
+use Rattle.serial_port.specs.Play.Feed.{finished, feed-waits, feed-finishes, feed-overrun, feed-serves}
+use Rattle.serial_port.specs.Play.Kept.{Keeps, answers-keep, finish-keeps}
 
 after-shorter : (b : ℕ) (bs : List ℕ) → length (after 0x0D (b ∷ bs)) ≤ length bs
 after-shorter b bs = simp (after-drop, length-drop) (omega arith)
 
--- where no call is refused while the values are good: playing is feeding
-module _ (answer : Answering) (Good : List ℤ → Type 0) (keeps : Keeps answer Good)
-    (refusal : ℕ → List ℤ → View → ℕ) (serves : (call : ℕ) (vs : List ℤ) (v : View) → claim v ≤ lineLimit → Good vs → refusal call vs v ≡ 0) where
+-- where no call is refused while the state is good: playing is feeding
+module _ {S : Type 0} (server : Server S) (Good : S → Type 0) (keeps : Keeps server Good)
+    (refusal : ℕ → S → View → ℕ) (serves : (call : ℕ) (s : S) (v : View) → claim v ≤ lineLimit → Good s → refusal call s v ≡ 0) where
   -- a first call that finishes a line, and one that does not
-  call-finishes : (call left : ℕ) (v : View) (vs : List ℤ) (b : ℕ) (bs : List ℕ) → claim v ≤ lineLimit → Good vs → has 0x0D (b ∷ bs) ≡ true
-      → playFrom answer refusal call (suc left) v vs (b ∷ bs)
-      ≡ replyFirst (finish answer vs (join v (before 0x0D (b ∷ bs))) .reply)
-      (playFrom answer refusal (suc call) left fresh (finish answer vs (join v (before 0x0D (b ∷ bs))) .values) (after 0x0D (b ∷ bs)))
+  call-finishes : (call left : ℕ) (v : View) (s : S) (b : ℕ) (bs : List ℕ) → claim v ≤ lineLimit → Good s → has 0x0D (b ∷ bs) ≡ true
+      → playFrom server refusal call (suc left) v s (b ∷ bs)
+      ≡ replyFirst (finish server s (join v (before 0x0D (b ∷ bs))) .reply)
+      (playFrom server refusal (suc call) left fresh (finish server s (join v (before 0x0D (b ∷ bs))) .state) (after 0x0D (b ∷ bs)))
   unfolding playFrom first replied
-  call-finishes call left v vs b bs k g e = rw (serves call vs v k g, e, step-finishes answer vs v (b ∷ bs) e, after-drop 0x0D (b ∷ bs)) refl
+  call-finishes call left v s b bs k g e = rw (serves call s v k g, e, step-finishes server s v (b ∷ bs) e, after-drop 0x0D (b ∷ bs)) refl
 
-  call-waits : (call left : ℕ) (v : View) (vs : List ℤ) (b : ℕ) (bs : List ℕ) → claim v ≤ lineLimit → Good vs → has 0x0D (b ∷ bs) ≡ false
-      → playFrom answer refusal call (suc left) v vs (b ∷ bs) ≡ playFrom answer refusal (suc call) left (join v (b ∷ bs)) vs []
+  call-waits : (call left : ℕ) (v : View) (s : S) (b : ℕ) (bs : List ℕ) → claim v ≤ lineLimit → Good s → has 0x0D (b ∷ bs) ≡ false
+      → playFrom server refusal call (suc left) v s (b ∷ bs) ≡ playFrom server refusal (suc call) left (join v (b ∷ bs)) s []
   unfolding playFrom first waiting
-  call-waits call left v vs b bs k g e = rw (serves call vs v k g, e, step-waits answer vs v (b ∷ bs) e, drop-length bs) refl
+  call-waits call left v s b bs k g e = rw (serves call s v k g, e, step-waits server s v (b ∷ bs) e, drop-length bs) refl
 
   abbrev Feeds : (call left : ℕ) → Type 0
   Feeds call left =
-      (v : View) (vs : List ℤ) (bs : List ℕ) → length bs ≤ left → claim v ≤ lineLimit → Good vs
-      → playFrom answer refusal call left v vs bs ≡ feed answer v vs bs
+      (v : View) (s : S) (bs : List ℕ) → length bs ≤ left → claim v ≤ lineLimit → Good s
+      → playFrom server refusal call left v s bs ≡ feed server v s bs
 
-  pub play-feed : (call left : ℕ) (v : View) (vs : List ℤ) (bs : List ℕ) → length bs ≤ left → claim v ≤ lineLimit → Good vs
-      → playFrom answer refusal call left v vs bs ≡ feed answer v vs bs
+  pub play-feed : (call left : ℕ) (v : View) (s : S) (bs : List ℕ) → length bs ≤ left → claim v ≤ lineLimit → Good s
+      → playFrom server refusal call left v s bs ≡ feed server v s bs
   unfolding playFrom feed
-  play-feed call zero v vs [] n k g = refl
-  play-feed call zero v vs (b ∷ bs) n k g = absurd (omega arith)
-  play-feed call (suc left) v vs [] n k g = refl
-  play-feed call (suc left) v vs (b ∷ bs) n k g = go (has 0x0D (b ∷ bs)) refl (play-feed (suc call) left)
+  play-feed call zero v s [] n k g = refl
+  play-feed call zero v s (b ∷ bs) n k g = absurd (omega arith)
+  play-feed call (suc left) v s [] n k g = refl
+  play-feed call (suc left) v s (b ∷ bs) n k g = go (has 0x0D (b ∷ bs)) refl (play-feed (suc call) left)
     where
       line : View
       line = join v (before 0x0D (b ∷ bs))
 
-      go : (t : Bool) → has 0x0D (b ∷ bs) ≡ t → Feeds (suc call) left → playFrom answer refusal call (suc left) v vs (b ∷ bs) ≡ feed answer v vs (b ∷ bs)
+      go : (t : Bool) → has 0x0D (b ∷ bs) ≡ t → Feeds (suc call) left → playFrom server refusal call (suc left) v s (b ∷ bs) ≡ feed server v s (b ∷ bs)
       go true e ih =
-          call-finishes call left v vs b bs k g e
-          ∙ ap (replyFirst (finish answer vs line .reply))
-          (ih fresh (finish answer vs line .values) (after 0x0D (b ∷ bs)) (omega (arith, after-shorter b bs))
-          fresh-few (finish-keeps answer Good keeps vs line (claim-join v (before 0x0D (b ∷ bs))) g))
-          ∙ sym (unfold finished in feed-finishes answer v vs (b ∷ bs) k e)
+          call-finishes call left v s b bs k g e
+          ∙ ap (replyFirst (finish server s line .reply))
+          (ih fresh (finish server s line .state) (after 0x0D (b ∷ bs)) (omega (arith, after-shorter b bs))
+          fresh-few (finish-keeps server Good keeps s line (claim-join v (before 0x0D (b ∷ bs))) g))
+          ∙ sym (unfold finished in feed-finishes server v s (b ∷ bs) k e)
       go false e ih =
-          call-waits call left v vs b bs k g e ∙ ih (join v (b ∷ bs)) vs [] (omega arith) (claim-join v (b ∷ bs)) g
-          ∙ sym (feed-waits answer v vs (b ∷ bs) k e)
+          call-waits call left v s b bs k g e ∙ ih (join v (b ∷ bs)) s [] (omega arith) (claim-join v (b ∷ bs)) g
+          ∙ sym (feed-waits server v s (b ∷ bs) k e)
 
 -- ---- playing on a table
 
@@ -76,8 +78,8 @@ module _ (answer : Answering) (Good : List ℤ → Type 0) (keeps : Keeps answer
 abbrev pub Right : List ℕ → List ℤ → Type 0
 Right t vs = valuesSound t vs ≡ true
 
-pub keeps-right : (t : List ℕ) → sound t ≡ true → Keeps (answer t) (Right t)
-keeps-right t s vs l n r = values-stay-sound t vs l s r
+pub keeps-right : (t : List ℕ) → sound t ≡ true → Keeps (controlSpace t) (Right t)
+keeps-right t s = answers-keep t (Right t) (λ vs l n r. values-stay-sound t vs l s r)
 
 -- over a sound table and right values no call is refused, and playing is feeding byte by byte
 module _ (t : List ℕ) (is-sound : sound t ≡ true) (replyRooms : ℕ → ℕ) (enough : (call : ℕ) → replyLimit ≤ replyRooms call) where
@@ -86,13 +88,19 @@ module _ (t : List ℕ) (is-sound : sound t ≡ true) (replyRooms : ℕ → ℕ)
   serves call vs v k r = accepted t vs (replyRooms call) (claim v) is-sound r (enough call) k
 
   pub plays-from : (v : View) (vs : List ℤ) (bs : List ℕ) → claim v ≤ lineLimit → Right t vs
-      → playFrom (answer t) (refusal t replyRooms) 0 (length bs) v vs bs ≡ feed (answer t) v vs bs
-  plays-from v vs bs k r = play-feed (answer t) (Right t) (keeps-right t is-sound) (refusal t replyRooms) serves 0 (length bs) v vs bs (omega arith) k r
+      → playFrom (controlSpace t) (refusal t replyRooms) 0 (length bs) v vs bs ≡ feed (controlSpace t) v vs bs
+  plays-from v vs bs k r = play-feed (controlSpace t) (Right t) (keeps-right t is-sound) (refusal t replyRooms) serves 0 (length bs) v vs bs (omega arith) k r
 
-  pub plays : (vs : List ℤ) (bs : List ℕ) → Right t vs → play t replyRooms vs bs ≡ feed (answer t) fresh vs bs
+  pub plays : (vs : List ℤ) (bs : List ℕ) → Right t vs → play t replyRooms vs bs ≡ feed (controlSpace t) fresh vs bs
   unfolding play
   plays vs bs r = plays-from fresh vs bs fresh-few r
 
   -- no call of a play is refused
   pub play-serves : (vs : List ℤ) (bs : List ℕ) → Right t vs → play t replyRooms vs bs .refused ≡ false
-  play-serves vs bs r = ap (λ p. p .refused) (plays vs bs r) ∙ feed-serves (answer t) fresh vs bs
+  play-serves vs bs r = ap (λ p. p .refused) (plays vs bs r) ∙ feed-serves (controlSpace t) fresh vs bs
+
+-- a line of more than 64 bytes gets one 99, and what follows a fresh port
+pub overrun-told : (t : List ℕ) (vs : List ℤ) (l rest : List ℕ) → lineLimit < length l → has 0x0D l ≡ false
+    → feed (controlSpace t) fresh vs (l ++ 0x0D ∷ rest) ≡ replyFirst (nak 99) (feed (controlSpace t) fresh vs rest)
+unfolding finished
+overrun-told t vs l rest k h = feed-overrun (controlSpace t) vs l rest k h ∙ rw (overrun-reply t vs, overrun-state t vs) refl

@@ -8,7 +8,7 @@ use borrow.Author.Tests.{lt-ltb, le-ltb}
 use lib.Dec.{ltb}
 use lib.IntN.{ℤ}
 use lib.ListN.{length, drop, length-drop}
-use Rattle.line.specs.Answer.{answer}
+use Rattle.serial_port.specs.Server.{controlSpace}
 use Rattle.serial_port.specs.Port.{View}
 use Rattle.serial_port.specs.Call.{step}
 use Rattle.serial_port.specs.Refusal.{replyLimit}
@@ -26,11 +26,11 @@ module _ (t : List ℕ) where
   enough (suc m) zero vs v (b ∷ bs) room h k = absurd (omega arith)
   enough (suc m) (suc n) vs v [] room h k = refl
   enough (suc m) (suc n) vs v (b ∷ bs) room h k =
-      let s = step (answer t) vs v (b ∷ bs) in
-      let some = consumed-some (answer t) v vs (b ∷ bs) (omega arith) in
+      let s = step (controlSpace t) vs v (b ∷ bs) in
+      let some = consumed-some (controlSpace t) v vs (b ∷ bs) (omega arith) in
       let left : length (drop (s .consumed) (b ∷ bs)) ≤ length bs = rw (length-drop (s .consumed) (b ∷ bs)) (omega arith) in
       ap (λ (k : ℕ). cond (ltb room replyLimit) 0 (s .consumed + k))
-      (enough m n (s .values) (s .port) (drop (s .consumed) (b ∷ bs)) (room - length (s .reply)) (omega arith) (omega arith))
+      (enough m n (s .state) (s .port) (drop (s .consumed) (b ∷ bs)) (room - length (s .reply)) (omega arith) (omega arith))
 
   pub none-left : (m : ℕ) (vs : List ℤ) (v : View) (bs : List ℕ) (room : ℕ) → length bs ≤ 0 → consumes m t vs v bs room ≡ 0
   unfolding consumes
@@ -47,14 +47,14 @@ module _ (t : List ℕ) where
   -- one call, and then the rest
   pub one-more : (vs : List ℤ) (v : View) (bs : List ℕ) (room : ℕ) → 1 ≤ length bs → 64 ≤ room
       → consumes (length bs) t vs v bs room
-      ≡ step (answer t) vs v bs .consumed + consumes (length bs - step (answer t) vs v bs .consumed) t (step (answer t) vs v bs .values) (step (answer t) vs v bs .port)
-      (drop (step (answer t) vs v bs .consumed) bs) (room - length (step (answer t) vs v bs .reply))
+      ≡ step (controlSpace t) vs v bs .consumed + consumes (length bs - step (controlSpace t) vs v bs .consumed) t (step (controlSpace t) vs v bs .state) (step (controlSpace t) vs v bs .port)
+      (drop (step (controlSpace t) vs v bs .consumed) bs) (room - length (step (controlSpace t) vs v bs .reply))
   unfolding consumes replyLimit
   one-more vs v [] room h k = absurd (omega arith)
   one-more vs v (b ∷ bs) room h k =
-      let s = step (answer t) vs v (b ∷ bs) in
-      let some = consumed-some (answer t) v vs (b ∷ bs) (omega arith) in
+      let s = step (controlSpace t) vs v (b ∷ bs) in
+      let some = consumed-some (controlSpace t) v vs (b ∷ bs) (omega arith) in
       let long = length-drop (s .consumed) (b ∷ bs) in
       rw (le-ltb room 64 k)
       (ap (λ (k : ℕ). s .consumed + k)
-      (enough (length bs) (suc (length bs) - s .consumed) (s .values) (s .port) (drop (s .consumed) (b ∷ bs)) (room - length (s .reply)) (rw long (omega arith)) (rw long (omega arith))))
+      (enough (length bs) (suc (length bs) - s .consumed) (s .state) (s .port) (drop (s .consumed) (b ∷ bs)) (room - length (s .reply)) (rw long (omega arith)) (rw long (omega arith))))

@@ -5,7 +5,7 @@ use Prim.Native.Nat.{ℕ, _+_}
 use lib.IntN.{ℤ}
 use lib.ListN.{take, drop}
 use lib.Seq.{take-add}
-use Rattle.line.specs.Answer.{answer}
+use Rattle.serial_port.specs.Server.{controlSpace}
 use Rattle.serial_port.specs.Port.{view}
 use Rattle.serial_port.specs.Play.{ended}
 use Rattle.serial_port.specs.Play.Feed.{followed, feed-nothing, feed-append}
@@ -15,9 +15,9 @@ use Rattle.serial_port.specs.declared.port.Port.{Port}
 module _ (t : List ℕ) (vs : List ℤ) (p : Port) where
   pub flow-nothing : flow t vs p [] ≡ ended (view p) vs
   unfolding flow
-  flow-nothing = feed-nothing (answer t) (view p) vs
+  flow-nothing = feed-nothing (controlSpace t) (view p) vs
 
-  pub nothing-values : flow t vs p [] .values ≡ vs
+  pub nothing-values : flow t vs p [] .state ≡ vs
   unfolding ended
   nothing-values = rw flow-nothing refl
 
@@ -26,12 +26,12 @@ module _ (t : List ℕ) (vs : List ℤ) (p : Port) where
   nothing-seen = rw flow-nothing refl
 
   -- bs were fed and left vs′ and q, and more follow
-  module _ (bs : List ℕ) (vs′ : List ℤ) (q : Port) (v : vs′ ≡ flow t vs p bs .values) (s : view q ≡ flow t vs p bs .port) (more : List ℕ) where
+  module _ (bs : List ℕ) (vs′ : List ℤ) (q : Port) (v : vs′ ≡ flow t vs p bs .state) (s : view q ≡ flow t vs p bs .port) (more : List ℕ) where
     pub flow-on : flow t vs p (bs ++ more) ≡ followed (flow t vs p bs) (flow t vs′ q more)
     unfolding flow
-    flow-on = rw (v, s) (feed-append (answer t) (view p) vs bs more)
+    flow-on = rw (v, s) (feed-append (controlSpace t) (view p) vs bs more)
 
-    pub on-values : flow t vs p (bs ++ more) .values ≡ flow t vs′ q more .values
+    pub on-values : flow t vs p (bs ++ more) .state ≡ flow t vs′ q more .state
     unfolding followed
     on-values = rw flow-on refl
 
@@ -40,6 +40,6 @@ module _ (t : List ℕ) (vs : List ℤ) (p : Port) where
     on-seen = rw flow-on refl
 
   -- `at` bytes of bs were fed and left vs′ and q, and n more follow
-  pub flow-more : (bs : List ℕ) (at : ℕ) (vs′ : List ℤ) (q : Port) → vs′ ≡ flow t vs p (take at bs) .values → view q ≡ flow t vs p (take at bs) .port
+  pub flow-more : (bs : List ℕ) (at : ℕ) (vs′ : List ℤ) (q : Port) → vs′ ≡ flow t vs p (take at bs) .state → view q ≡ flow t vs p (take at bs) .port
       → (n : ℕ) → flow t vs p (take (at + n) bs) ≡ followed (flow t vs p (take at bs)) (flow t vs′ q (take n (drop at bs)))
   flow-more bs at vs′ q v s n = rw (take-add at n bs) (flow-on (take at bs) vs′ q v s (take n (drop at bs)))

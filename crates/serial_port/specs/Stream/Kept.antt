@@ -6,7 +6,7 @@ use Prim.Native.Nat.{ℕ, _≤_}
 use lib.IntN.{ℤ}
 use Rattle.room.specs.Table.{sound}
 use Rattle.syntax.specs.Shape.{lineLimit}
-use Rattle.line.specs.Answer.{answer}
+use Rattle.serial_port.specs.Server.{controlSpace}
 use Rattle.serial_port.specs.Port.{View, view}
 use Rattle.serial_port.specs.Port.Laws.{claim-view}
 use Rattle.serial_port.specs.Call.{step}
@@ -16,9 +16,9 @@ use Rattle.serial_port.specs.Stream.{flow}
 use Rattle.serial_port.specs.declared.port.Port.{Port}
 
 module _ (t : List ℕ) (vs : List ℤ) (is-sound : sound t ≡ true) (r : Right t vs) where
-  pub step-right : (v : View) (bs : List ℕ) → Right t (step (answer t) vs v bs .values)
-  step-right v bs = step-keeps (answer t) (Right t) (keeps-right t is-sound) v vs bs r
+  pub step-right : (v : View) (bs : List ℕ) → Right t (step (controlSpace t) vs v bs .state)
+  step-right v bs = step-keeps (controlSpace t) (Right t) (keeps-right t is-sound) v vs bs r
 
-  pub flow-right : (p : Port) → p .len ≤ 64 → (bs : List ℕ) → Right t (flow t vs p bs .values)
+  pub flow-right : (p : Port) → p .len ≤ 64 → (bs : List ℕ) → Right t (flow t vs p bs .state)
   unfolding flow lineLimit
-  flow-right p k bs = feed-keeps (answer t) (Right t) (keeps-right t is-sound) (view p) vs bs (claim-view p k) r
+  flow-right p k bs = feed-keeps (controlSpace t) (Right t) (keeps-right t is-sound) (view p) vs bs (claim-view p k) r

@@ -17,11 +17,11 @@ use Rattle.text.specs.Written.Laws.{wrote-nothing, wrote-join, wrote-length, le
 use Rattle.room.specs.Table.{sound}
 use Rattle.values.specs.Values.{valuesSound}
 use Rattle.syntax.specs.Shape.{lineLimit}
-use Rattle.line.specs.Answer.{answer}
+use Rattle.serial_port.specs.Server.{controlSpace}
 use Rattle.serial_port.specs.Port.{view}
 use Rattle.serial_port.specs.Port.Laws.{claim-view}
 use Rattle.serial_port.specs.Call.{step, Answers}
-use Rattle.serial_port.specs.Call.Accepted.{Accepted, accept, consumed-most, consumed-some, step-fits}
+use Rattle.serial_port.specs.Call.Accepted.{Accepted, answer-accept, consumed-most, consumed-some, step-fits}
 use Rattle.serial_port.specs.Refusal.{replyLimit}
 use Rattle.serial_port.specs.Play.{ended}
 use Rattle.serial_port.specs.Play.Feed.{followed}
@@ -48,7 +48,7 @@ pub record Serving (t : List ℕ) (vs : List ℤ) (p : Port) (bs out : List ℕ)
   pub room : n ≤ length out
   pub long : length out′ ≡ length out
   pub replies : Wrote out 0 (joined (flow t vs p (take at bs) .replies)) n out′
-  pub values : vs′ ≡ flow t vs p (take at bs) .values
+  pub values : vs′ ≡ flow t vs p (take at bs) .state
   pub seen : view q ≡ flow t vs p (take at bs) .port
   pub rest : consumes (length bs) t vs (view p) bs (length out) ≡ at + consumes (length bs - at) t vs′ (view q) (drop at bs) (length out - n)
 
@@ -80,31 +80,31 @@ module _ (t : List ℕ) (vs : List ℤ) (p : Port) (bs out : List ℕ) where
     -- ---- one more call
     module _ (c : Called) (vs″ : List ℤ) (part : List ℕ) (left : 64 ≤ length out′ - n)
         (a : Answers t vs′ q (take (length bs - at) (drop at bs)) (take (length out′ - n) (drop n out′)) c vs″ part) where
-      done : Accepted t vs′ q (drop at bs) (take (length out′ - n) (drop n out′)) c vs″ part
+      done : Accepted (controlSpace t) vs′ q (drop at bs) (take (length out′ - n) (drop n out′)) c vs″ part
       unfolding lineLimit replyLimit
       done =
           let enough : 64 ≤ length (take (length out′ - n) (drop n out′)) = rw (part-to-end out′ n, length-drop n out′) left in
-          accept t vs′ q (drop at bs) (take (length out′ - n) (drop n out′)) c vs″ part (h .sounds) (h .right) enough (h .few) (rw (part-to-end bs at) at a)
+          answer-accept t vs′ q (drop at bs) (take (length out′ - n) (drop n out′)) c vs″ part (h .sounds) (h .right) enough (h .few) (rw (part-to-end bs at) at a)
 
-      wrote : Wrote out′ n (step (answer t) vs′ (view q) (drop at bs) .reply) (n + c .sent) (putMid n (length out′ - n) out′ part)
+      wrote : Wrote out′ n (step (controlSpace t) vs′ (view q) (drop at bs) .reply) (n + c .sent) (putMid n (length out′ - n) out′ part)
       wrote =
           let fits = step-fits t vs′ (view q) (drop at bs) (h .sounds) (h .right) in
-          lent-wrote out′ part n (c .sent) (step (answer t) vs′ (view q) (drop at bs) .reply) (omega (arith, serving-within)) (done .reply)
+          lent-wrote out′ part n (c .sent) (step (controlSpace t) vs′ (view q) (drop at bs) .reply) (omega (arith, serving-within)) (done .reply)
 
       -- the call, fed byte by byte to what the calls before left
-      fed : Once (flow t vs′ q (take (c .consumed) (drop at bs))) (step (answer t) vs′ (view q) (drop at bs))
+      fed : Once (flow t vs′ q (take (c .consumed) (drop at bs))) (step (controlSpace t) vs′ (view q) (drop at bs))
       unfolding flow lineLimit
-      fed = rw (done .consumed) (feed-once (answer t) (view q) vs′ (drop at bs) (claim-view q (h .few)))
+      fed = rw (done .consumed) (feed-once (controlSpace t) (view q) vs′ (drop at bs) (claim-view q (h .few)))
 
       right-after : valuesSound t vs″ ≡ true
-      right-after = rw (done .values) (step-right t vs′ (h .sounds) (h .right) (view q) (drop at bs))
+      right-after = rw (done .state) (step-right t vs′ (h .sounds) (h .right) (view q) (drop at bs))
 
       most : c .consumed ≤ length bs - at
-      most = rw (done .consumed, ← (length-drop at bs)) (consumed-most (answer t) (view q) vs′ (drop at bs))
+      most = rw (done .consumed, ← (length-drop at bs)) (consumed-most (controlSpace t) (view q) vs′ (drop at bs))
 
       pub serving-less : at < length bs → length bs - (at + c .consumed) < length bs - at
       serving-less l =
-          let some : 1 ≤ c .consumed = rw (done .consumed) (consumed-some (answer t) (view q) vs′ (drop at bs) (rw (length-drop at bs) (omega arith))) in
+          let some : 1 ≤ c .consumed = rw (done .consumed) (consumed-some (controlSpace t) (view q) vs′ (drop at bs) (rw (length-drop at bs) (omega arith))) in
           omega (arith, most)
 
       rest-next : at < length bs
@@ -114,11 +114,11 @@ module _ (t : List ℕ) (vs : List ℤ) (p : Port) (bs out : List ℕ) where
           let v = view q in
           let long = length-drop at bs in
           let m = one-more t vs′ v (drop at bs) (length out - n) (rw long (omega arith)) (omega (arith, h .long)) in
-          let told : c .sent ≡ length (step (answer t) vs′ v (drop at bs) .reply) = past-by (done .reply) ∙ zero-add (length (step (answer t) vs′ v (drop at bs) .reply)) in
+          let told : c .sent ≡ length (step (controlSpace t) vs′ v (drop at bs) .reply) = past-by (done .reply) ∙ zero-add (length (step (controlSpace t) vs′ v (drop at bs) .reply)) in
           let fuel : length bs - (at + c .consumed) ≡ length bs - at - c .consumed = omega arith in
           let left : length out - (n + c .sent) ≡ length out - n - c .sent = omega arith in
           let whole = h .rest ∙ ap (λ (k : ℕ). at + k) (rw long at m) in
-          rw (fuel, left, ← (drop-drop (c .consumed) at bs), told, done .consumed, done .values, done .seen, add-assoc at (step (answer t) vs′ v (drop at bs) .consumed)) whole
+          rw (fuel, left, ← (drop-drop (c .consumed) at bs), told, done .consumed, done .state, done .seen, add-assoc at (step (controlSpace t) vs′ v (drop at bs) .consumed)) whole
 
       pub serving-next : at < length bs → Serving t vs p bs out vs″ (c .port) (at + c .consumed) (n + c .sent) (putMid n (length out′ - n) out′ part)
       unfolding followed lineLimit
@@ -138,7 +138,7 @@ module _ (t : List ℕ) (vs : List ℤ) (p : Port) (bs out : List ℕ) where
             room = omega (arith, serving-within, h .long);
             long = wrote-length wrote ∙ h .long;
             replies = rw (f, joined-append, fed .replies) w;
-            values = rw f (done .values ∙ sym (fed .values));
+            values = rw f (done .state ∙ sym (fed .state));
             seen = rw f (done .seen ∙ sym (fed .port));
             rest = rest-next l;
           }

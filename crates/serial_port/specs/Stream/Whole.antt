@@ -13,7 +13,7 @@ use Rattle.text.specs.Written.{Wrote}
 use Rattle.room.specs.Table.{sound}
 use Rattle.values.specs.Values.{valuesSound}
 use Rattle.syntax.specs.Shape.{lineLimit}
-use Rattle.line.specs.Answer.{answer}
+use Rattle.serial_port.specs.Server.{controlSpace}
 use Rattle.serial_port.specs.Port.{View, view}
 use Rattle.serial_port.specs.Call.{step}
 use Rattle.serial_port.specs.Refusal.{replyLimit}
@@ -31,13 +31,13 @@ module _ (t : List ℕ) (is-sound : sound t ≡ true) where
   consumes-all zero vs v bs room n r h = omega arith
   consumes-all (suc calls) vs v [] room n r h = refl
   consumes-all (suc calls) vs v (b ∷ bs) room n r h =
-      let s = step (answer t) vs v (b ∷ bs) in
-      let most = consumed-most (answer t) v vs (b ∷ bs) in
-      let some = consumed-some (answer t) v vs (b ∷ bs) (omega arith) in
+      let s = step (controlSpace t) vs v (b ∷ bs) in
+      let most = consumed-most (controlSpace t) v vs (b ∷ bs) in
+      let some = consumed-some (controlSpace t) v vs (b ∷ bs) (omega arith) in
       let few = step-fits t vs v (b ∷ bs) is-sound r in
       let left = length-drop (s .consumed) (b ∷ bs) in
       let right = step-right t vs is-sound r v (b ∷ bs) in
-      let rest = consumes-all calls (s .values) (s .port) (drop (s .consumed) (b ∷ bs)) (room - length (s .reply)) (omega arith) right (omega arith) in
+      let rest = consumes-all calls (s .state) (s .port) (drop (s .consumed) (b ∷ bs)) (room - length (s .reply)) (omega arith) right (omega arith) in
       rw (le-ltb room 64 (omega arith)) (omega arith)
 
   pub all-consumed : (vs : List ℤ) (v : View) (bs : List ℕ) (room : ℕ) → valuesSound t vs ≡ true → 64 * length bs ≤ room
@@ -53,7 +53,7 @@ module _ (t : List ℕ) (vs : List ℤ) (p : Port) (bs out : List ℕ) (s : Serv
   pub whole-replies : Wrote out 0 (joined (flow t vs p bs .replies)) (s .sent) out′
   whole-replies = rw whole at (a .replies)
 
-  pub whole-values : vs′ ≡ flow t vs p bs .values
+  pub whole-values : vs′ ≡ flow t vs p bs .state
   whole-values = rw whole at (a .values)
 
   pub whole-seen : view (s .port) ≡ flow t vs p bs .port

@@ -8,8 +8,8 @@ use lib.IntN.{ℤ}
 use lib.ListN.{length, drop, length-drop}
 use Rattle.room.specs.Table.{sound}
 use Rattle.values.specs.Starts.{starts}
-use Rattle.line.specs.Answer.{answer}
-use Rattle.serial_port.specs.Call.{Answering, step}
+use Rattle.serial_port.specs.Server.{Server, controlSpace}
+use Rattle.serial_port.specs.Call.{step}
 use Rattle.serial_port.specs.Port.{View, fresh, view}
 use Rattle.serial_port.specs.Call.Accepted.{consumed-most, consumed-some}
 use Rattle.serial_port.specs.declared.port.Port.{Port}
@@ -21,7 +21,7 @@ use Rattle.worked.specs.declared.play.Tally.{Tally}
 -- ---- the two parts of the promise
 
 module _ {t : List ℕ} {vs : List ℤ} {p : Port} {script : List ℕ} {r : Played} {vs′ : List ℤ} where
-  pub line-by : Plays t vs p script r vs′ → turned r vs′ ≡ turn (answer t) vs (view p) script
+  pub line-by : Plays t vs p script r vs′ → turned r vs′ ≡ turn (controlSpace t) vs (view p) script
   line-by (plays line few) = line
 
   pub few-by : Plays t vs p script r vs′ → r .port .len ≤ 64
@@ -29,38 +29,38 @@ module _ {t : List ℕ} {vs : List ℤ} {p : Port} {script : List ℕ} {r : Play
 
 -- ---- one line
 
-module _ (answer : Answering) (vs : List ℤ) (v : View) (script : List ℕ) where
-  pub turn-most : turn answer vs v script .passed ≤ length script
+module _ (server : Server (List ℤ)) (vs : List ℤ) (v : View) (script : List ℕ) where
+  pub turn-most : turn server vs v script .passed ≤ length script
   unfolding turn
   turn-most =
-      let n = step answer vs v script .consumed in
-      omega (arith, consumed-most answer v vs script, through-most (drop n script), length-drop n script)
+      let n = step server vs v script .consumed in
+      omega (arith, consumed-most server v vs script, through-most (drop n script), length-drop n script)
 
   -- a line has a byte or more
-  pub turn-some : 1 ≤ length script → 1 ≤ turn answer vs v script .passed
+  pub turn-some : 1 ≤ length script → 1 ≤ turn server vs v script .passed
   unfolding turn
-  turn-some h = omega (arith, consumed-some answer v vs script h)
+  turn-some h = omega (arith, consumed-some server v vs script h)
 
 -- ---- the rest of a script: nothing, a wrong answer, or a right one and what follows
 
-module _ (answer : Answering) (vs : List ℤ) (v : View) (right at : ℕ) where
-  pub none-left : (lines : ℕ) (rest : List ℕ) → length rest ≤ 0 → playFrom lines answer vs v right at rest ≡ record { right = right; at = at; values = vs }
+module _ (server : Server (List ℤ)) (vs : List ℤ) (v : View) (right at : ℕ) where
+  pub none-left : (lines : ℕ) (rest : List ℕ) → length rest ≤ 0 → playFrom lines server vs v right at rest ≡ record { right = right; at = at; values = vs }
   unfolding playFrom
   none-left zero rest h = refl
   none-left (suc lines) [] h = refl
   none-left (suc lines) (b ∷ bs) h = absurd (omega arith)
 
-  pub wrong-next : (lines : ℕ) (rest : List ℕ) → 1 ≤ length rest → length rest ≤ lines → turn answer vs v rest .right ≡ false
-      → playFrom lines answer vs v right at rest ≡ record { right = right; at = at; values = turn answer vs v rest .values }
+  pub wrong-next : (lines : ℕ) (rest : List ℕ) → 1 ≤ length rest → length rest ≤ lines → turn server vs v rest .right ≡ false
+      → playFrom lines server vs v right at rest ≡ record { right = right; at = at; values = turn server vs v rest .values }
   unfolding playFrom
   wrong-next zero rest h k e = absurd (omega arith)
   wrong-next (suc lines) [] h k e = absurd (omega arith)
   wrong-next (suc lines) (b ∷ bs) h k e = rw e refl
 
-  pub right-next : (lines : ℕ) (rest : List ℕ) → 1 ≤ length rest → length rest ≤ lines → turn answer vs v rest .right ≡ true
-      → playFrom lines answer vs v right at rest
-      ≡ playFrom (lines - 1) answer (turn answer vs v rest .values) (turn answer vs v rest .port) (right + 1) (at + turn answer vs v rest .passed)
-      (drop (turn answer vs v rest .passed) rest)
+  pub right-next : (lines : ℕ) (rest : List ℕ) → 1 ≤ length rest → length rest ≤ lines → turn server vs v rest .right ≡ true
+      → playFrom lines server vs v right at rest
+      ≡ playFrom (lines - 1) server (turn server vs v rest .values) (turn server vs v rest .port) (right + 1) (at + turn server vs v rest .passed)
+      (drop (turn server vs v rest .passed) rest)
   unfolding playFrom
   right-next zero rest h k e = absurd (omega arith)
   right-next (suc lines) [] h k e = absurd (omega arith)
@@ -72,18 +72,18 @@ module _ (answer : Answering) (vs : List ℤ) (v : View) (right at : ℕ) where
 abbrev Few : Outcome → Type 0
 Few o = o .right ≤ o .at
 
-few-from : (lines : ℕ) (reading : Answering) (vs : List ℤ) (v : View) (right at : ℕ) (rest : List ℕ) → right ≤ at → Few (playFrom lines reading vs v right at rest)
+few-from : (lines : ℕ) (server : Server (List ℤ)) (vs : List ℤ) (v : View) (right at : ℕ) (rest : List ℕ) → right ≤ at → Few (playFrom lines server vs v right at rest)
 unfolding playFrom
-few-from zero reading vs v right at rest h = h
-few-from (suc lines) reading vs v right at [] h = h
-few-from (suc lines) reading vs v right at (b ∷ bs) h =
-    let s = turn reading vs v (b ∷ bs) in
-    let some = turn-some reading vs v (b ∷ bs) (omega arith) in
+few-from zero server vs v right at rest h = h
+few-from (suc lines) server vs v right at [] h = h
+few-from (suc lines) server vs v right at (b ∷ bs) h =
+    let s = turn server vs v (b ∷ bs) in
+    let some = turn-some server vs v (b ∷ bs) (omega arith) in
     go (s .right)
-    (playFrom lines reading (s .values) (s .port) (right + 1) (at + s .passed) (drop (s .passed) (b ∷ bs)))
-    (few-from lines reading (s .values) (s .port) (right + 1) (at + s .passed) (drop (s .passed) (b ∷ bs)) (omega arith))
+    (playFrom lines server (s .values) (s .port) (right + 1) (at + s .passed) (drop (s .passed) (b ∷ bs)))
+    (few-from lines server (s .values) (s .port) (right + 1) (at + s .passed) (drop (s .passed) (b ∷ bs)) (omega arith))
   where
-    go : (c : Bool) (o : Outcome) → Few o → Few (cond c o (record { right = right; at = at; values = turn reading vs v (b ∷ bs) .values }))
+    go : (c : Bool) (o : Outcome) → Few o → Few (cond c o (record { right = right; at = at; values = turn server vs v (b ∷ bs) .values }))
     go true o k = k
     go false o k = h
 
@@ -92,8 +92,8 @@ unfolding tally counted outcome
 tally-few t script r e = rw e (go (sound t))
   where
     o : Outcome
-    o = playFrom (length script) (answer t) (starts t) fresh 0 0 script
+    o = playFrom (length script) (controlSpace t) (starts t) fresh 0 0 script
 
     go : (s : Bool) → cond s (counted o) (record { right = 0; at = 0 }) .right ≤ cond s (counted o) (record { right = 0; at = 0 }) .at
-    go true = few-from (length script) (answer t) (starts t) fresh 0 0 script (omega arith)
+    go true = few-from (length script) (controlSpace t) (starts t) fresh 0 0 script (omega arith)
     go false = omega arith

@@ -14,7 +14,7 @@ use mir.Val.{Fits}
 use Rattle.room.specs.Table.{sound}
 use Rattle.values.specs.Values.{valuesSound}
 use Rattle.values.specs.Values.Laws.{values-many}
-use Rattle.line.specs.Answer.{answer}
+use Rattle.serial_port.specs.Server.{controlSpace}
 use Rattle.serial_port.specs.Port.{fresh, view}
 use Rattle.serial_port.specs.Stream.Kept.{step-right}
 use Rattle.serial_port.specs.declared.port.Port.{Port}
@@ -33,7 +33,7 @@ pub record Playing (t : List ℕ) (vs : List ℤ) (script : List ℕ) (vs′ : L
   pub fits : length script < 18446744073709551616
   pub left : ℕ
   pub enough : length script ≤ at + left
-  pub rest : outcome t vs script ≡ playFrom left (answer t) vs′ (view q) right at (drop at script)
+  pub rest : outcome t vs script ≡ playFrom left (controlSpace t) vs′ (view q) right at (drop at script)
 
 module _ (t : List ℕ) (vs : List ℤ) (script : List ℕ) where
   pub playing-start : (q : Port) → sound t ≡ true → valuesSound t vs ≡ true → length script < 18446744073709551616 → view q ≡ fresh → q .len ≡ 0
@@ -57,37 +57,37 @@ module _ (t : List ℕ) (vs : List ℤ) (script : List ℕ) where
     unfolding told
     playing-end l =
         let none : length (drop at script) ≤ 0 = rw (length-drop at script) (omega arith) in
-        sym (h .rest ∙ none-left (answer t) vs′ (view q) right at (h .left) (drop at script) none)
+        sym (h .rest ∙ none-left (controlSpace t) vs′ (view q) right at (h .left) (drop at script) none)
 
     -- ---- one more line
     module _ (r : Played) (vs″ : List ℤ) (l : at < length script) (p : Plays t vs′ q (take (length script - at) (drop at script)) r vs″) where
-      line : turned r vs″ ≡ turn (answer t) vs′ (view q) (drop at script)
+      line : turned r vs″ ≡ turn (controlSpace t) vs′ (view q) (drop at script)
       line = rw (part-to-end script at) at (line-by p)
 
       long : length (drop at script) ≡ length script - at
       long = length-drop at script
 
-      passed-is : r .passed ≡ turn (answer t) vs′ (view q) (drop at script) .passed
+      passed-is : r .passed ≡ turn (controlSpace t) vs′ (view q) (drop at script) .passed
       unfolding turned
       passed-is = ap (λ x. x .passed) line
 
-      values-are : vs″ ≡ turn (answer t) vs′ (view q) (drop at script) .values
+      values-are : vs″ ≡ turn (controlSpace t) vs′ (view q) (drop at script) .values
       unfolding turned
       values-are = ap (λ x. x .values) line
 
-      right-is : r .right ≡ turn (answer t) vs′ (view q) (drop at script) .right
+      right-is : r .right ≡ turn (controlSpace t) vs′ (view q) (drop at script) .right
       unfolding turned
       right-is = ap (λ x. x .right) line
 
-      seen-is : view (r .port) ≡ turn (answer t) vs′ (view q) (drop at script) .port
+      seen-is : view (r .port) ≡ turn (controlSpace t) vs′ (view q) (drop at script) .port
       unfolding turned
       seen-is = ap (λ x. x .port) line
 
       most : r .passed ≤ length script - at
-      most = rw (passed-is, ← long) (turn-most (answer t) vs′ (view q) (drop at script))
+      most = rw (passed-is, ← long) (turn-most (controlSpace t) vs′ (view q) (drop at script))
 
       some : 1 ≤ r .passed
-      some = rw passed-is (turn-some (answer t) vs′ (view q) (drop at script) (rw long (omega arith)))
+      some = rw passed-is (turn-some (controlSpace t) vs′ (view q) (drop at script) (rw long (omega arith)))
 
       permitted-after : valuesSound t vs″ ≡ true
       unfolding turn
@@ -111,12 +111,12 @@ module _ (t : List ℕ) (vs : List ℤ) (script : List ℕ) where
       playing-wrong n =
           let wrong = sym right-is ∙ not-true (r .right) n in
           rw values-are
-          (sym (h .rest ∙ wrong-next (answer t) vs′ (view q) right at (h .left) (drop at script) (rw long (omega arith)) (rw long (omega (arith, h .enough))) wrong))
+          (sym (h .rest ∙ wrong-next (controlSpace t) vs′ (view q) right at (h .left) (drop at script) (rw long (omega arith)) (rw long (omega (arith, h .enough))) wrong))
 
       pub playing-next : not (r .right) ≡ false → Playing t vs script vs″ (r .port) (at + r .passed) (right + 1)
       playing-next n =
           let is-right = sym right-is ∙ not-false (r .right) n in
-          let e = right-next (answer t) vs′ (view q) right at (h .left) (drop at script) (rw long (omega arith)) (rw long (omega (arith, h .enough))) is-right in
+          let e = right-next (controlSpace t) vs′ (view q) right at (h .left) (drop at script) (rw long (omega arith)) (rw long (omega (arith, h .enough))) is-right in
           record {
             sounds = h .sounds;
             permitted = permitted-after;

@@ -15,13 +15,13 @@ use Rattle.text.specs.Written.Laws.{bytes-by, past-by, wrote-length}
 use Rattle.room.specs.Label.{same}
 use Rattle.room.specs.Table.{sound}
 use Rattle.values.specs.Values.{valuesSound}
-use Rattle.line.specs.Answer.{answer}
+use Rattle.serial_port.specs.Server.{controlSpace}
 use Rattle.serial_port.specs.Port.{view}
 use Rattle.serial_port.specs.Call.{Answers, step}
 use Rattle.serial_port.specs.Call.Laws.{written-first}
 use Rattle.syntax.specs.Shape.{lineLimit}
 use Rattle.serial_port.specs.Refusal.{replyLimit}
-use Rattle.serial_port.specs.Call.Accepted.{Accepted, accept, consumed-most, step-fits}
+use Rattle.serial_port.specs.Call.Accepted.{Accepted, answer-accept, consumed-most, step-fits}
 use Rattle.serial_port.specs.declared.port.Called.{Called}
 use Rattle.serial_port.specs.declared.port.Port.{Port}
 use Rattle.worked.specs.Script.{Plays, plays, through, turn, turned}
@@ -32,15 +32,15 @@ module _ (t : List ℕ) (vs : List ℤ) (p : Port) (script : List ℕ) (c : Call
   room : length {A = ℕ} (replicate 64 0) ≡ 64
   room = length-replicate {A = ℕ} 64 0
 
-  done : Accepted t vs p script (replicate 64 0) c vs′ reply
+  done : Accepted (controlSpace t) vs p script (replicate 64 0) c vs′ reply
   unfolding lineLimit replyLimit
-  done = accept t vs p script (replicate 64 0) c vs′ reply s r (omega (arith, room)) k a
+  done = answer-accept t vs p script (replicate 64 0) c vs′ reply s r (omega (arith, room)) k a
 
   pub line-most : c .consumed ≤ length script
-  line-most = rw (done .consumed) (consumed-most (answer t) (view p) vs script)
+  line-most = rw (done .consumed) (consumed-most (controlSpace t) (view p) vs script)
 
-  sent-is : c .sent ≡ length (step (answer t) vs (view p) script .reply)
-  sent-is = past-by (done .reply) ∙ zero-add (length (step (answer t) vs (view p) script .reply))
+  sent-is : c .sent ≡ length (step (controlSpace t) vs (view p) script .reply)
+  sent-is = past-by (done .reply) ∙ zero-add (length (step (controlSpace t) vs (view p) script .reply))
 
   pub sent-most : c .sent ≤ length reply
   sent-most = omega (arith, room, sent-is, step-fits t vs (view p) script s r, wrote-length (done .reply))
@@ -48,9 +48,9 @@ module _ (t : List ℕ) (vs : List ℤ) (p : Port) (script : List ℕ) (c : Call
   pub sent-counts : c .sent ≡ length (take (c .sent) reply)
   sent-counts = sym (length-take-le (c .sent) reply sent-most)
 
-  reply-is : take (c .sent) reply ≡ step (answer t) vs (view p) script .reply
+  reply-is : take (c .sent) reply ≡ step (controlSpace t) vs (view p) script .reply
   reply-is =
-      let l = step (answer t) vs (view p) script .reply in
+      let l = step (controlSpace t) vs (view p) script .reply in
       rw (sent-is, bytes-by (done .reply)) (written-first (replicate 64 0) l (omega (arith, room, step-fits t vs (view p) script s r)))
 
   module _ (must : List ℕ) (e : must ≡ through (take (length script - c .consumed) (drop (c .consumed) script))) where
@@ -67,8 +67,8 @@ module _ (t : List ℕ) (vs : List ℤ) (p : Port) (script : List ℕ) (c : Call
         → Plays t vs p script (record { port = c .port; passed = c .consumed + length must; right = b }) vs′
     unfolding lineLimit turn turned
     played b q =
-        let told : b ≡ same (step (answer t) vs (view p) script .reply) (through (drop (step (answer t) vs (view p) script .consumed) script)) =
+        let told : b ≡ same (step (controlSpace t) vs (view p) script .reply) (through (drop (step (controlSpace t) vs (view p) script .consumed) script)) =
         rw (reply-is, must-is, done .consumed) at q in
-        plays (rw (told, done .values, done .seen, must-is, done .consumed) refl) (done .few)
+        plays (rw (told, done .state, done .seen, must-is, done .consumed) refl) (done .few)
 
 pub ruleset turning = (line-most, sent-most, sent-counts, passed-fits, played)

@@ -15,12 +15,12 @@ use Rattle.text.specs.Cut.Found.{after-drop}
 use Rattle.text.specs.Written.Laws.{past-by, bytes-by}
 use Rattle.room.specs.Table.{sound}
 use Rattle.syntax.specs.Shape.{lineLimit}
-use Rattle.line.specs.Answer.{answer}
+use Rattle.serial_port.specs.Server.{controlSpace}
 use Rattle.serial_port.specs.Port.{view, fresh, join}
 use Rattle.serial_port.specs.Port.Laws.{claim-view}
 use Rattle.serial_port.specs.Call.{finish, replied, waiting, Answers}
 use Rattle.serial_port.specs.Refusal.{replyLimit}
-use Rattle.serial_port.specs.Call.Accepted.{Accepted, accept, consumed-some}
+use Rattle.serial_port.specs.Call.Accepted.{Accepted, answer-accept, consumed-some}
 use Rattle.serial_port.specs.Call.Laws.{step-finishes, step-waits, written-first, reply-fits, reply-sent}
 use Rattle.serial_port.specs.Play.{Played, ended, replyFirst, play, feed}
 use Rattle.serial_port.specs.Play.Calls.{AsFresh, Made, Plays, lastPort, lastValues, replies}
@@ -34,9 +34,9 @@ pub fresh-counts : (p : Port) → view p ≡ fresh → p .len ≡ 0 → AsFresh 
 fresh-counts p seen none = record { seen = seen; few = omega arith }
 
 -- the calls cs, from port p and values vs on, did what the play says; the port that they left claims at most 64 bytes
-pub record Does (cs : List Made) (p : Port) (vs : List ℤ) (says : Played) : Type 0 where
+pub record Does (cs : List Made) (p : Port) (vs : List ℤ) (says : Played (List ℤ)) : Type 0 where
   pub replies : replies cs ≡ says .replies
-  pub values : lastValues cs vs ≡ says .values
+  pub values : lastValues cs vs ≡ says .state
   pub port : view (lastPort cs p) ≡ says .port
   pub few : lastPort cs p .len ≤ lineLimit
 
@@ -44,67 +44,67 @@ module _ (t : List ℕ) (is-sound : sound t ≡ true) where
   -- one call, and those that follow on it
   module _ (c : Made) (cs : List Made) (p : Port) (vs : List ℤ) (bs : List ℕ)
       (k : p .len ≤ lineLimit) (r : Right t vs) (n : replyLimit ≤ length (c .buffer))
-      (a : Accepted t vs p bs (c .buffer) (c .answer) (c .values) (c .after))
-      (rest : Does cs (c .answer .port) (c .values) (feed (answer t) (view (c .answer .port)) (c .values) (drop (c .answer .consumed) bs))) where
+      (a : Accepted (controlSpace t) vs p bs (c .buffer) (c .answer) (c .values) (c .after))
+      (rest : Does cs (c .answer .port) (c .values) (feed (controlSpace t) (view (c .answer .port)) (c .values) (drop (c .answer .consumed) bs))) where
     -- it finishes a line
-    finishes : has 0x0D bs ≡ true → Does (c ∷ cs) p vs (feed (answer t) (view p) vs bs)
+    finishes : has 0x0D bs ≡ true → Does (c ∷ cs) p vs (feed (controlSpace t) (view p) vs bs)
     unfolding lastPort lastValues replies replyFirst replied finished
     finishes e =
         let v = join (view p) (before 0x0D bs) in
-        let f = finish (answer t) vs v in
-        let s = step-finishes (answer t) vs (view p) bs e in
+        let f = finish (controlSpace t) vs v in
+        let s = step-finishes (controlSpace t) vs (view p) bs e in
         let seen : view (c .answer .port) ≡ fresh = a .seen ∙ ap (λ x. x .port) s in
         let consumed : c .answer .consumed ≡ suc (indexOf 0x0D bs) = a .consumed ∙ ap (λ x. x .consumed) s in
-        let values : c .values ≡ f .values = a .values ∙ ap (λ x. x .values) s in
+        let values : c .values ≡ f .state = a .state ∙ ap (λ x. x .state) s in
         let w = rw s at (a .reply) in
         let long : c .answer .sent ≡ length (f .reply) = past-by w ∙ zero-add (length (f .reply)) in
         let reply : take (c .answer .sent) (c .after) ≡ f .reply =
         rw (long, bytes-by w) (written-first (c .buffer) (f .reply) (omega (arith, reply-fits t vs v is-sound r))) in
         let sent : eqb (c .answer .sent) 0 ≡ false = ne-eqb (c .answer .sent) 0 (λ z. omega (arith, reply-sent t vs v is-sound r)) in
-        let next : feed (answer t) fresh (f .values) (after 0x0D bs)
-        ≡ feed (answer t) (view (c .answer .port)) (c .values) (drop (c .answer .consumed) bs) =
+        let next : feed (controlSpace t) fresh (f .state) (after 0x0D bs)
+        ≡ feed (controlSpace t) (view (c .answer .port)) (c .values) (drop (c .answer .consumed) bs) =
         rw (seen, values, consumed, after-drop 0x0D bs) refl in
-        rw (feed-finishes (answer t) (view p) vs bs (claim-view p k) e ∙ ap (replyFirst (f .reply)) next)
+        rw (feed-finishes (controlSpace t) (view p) vs bs (claim-view p k) e ∙ ap (replyFirst (f .reply)) next)
         (record { replies = rw (sent, reply) (ap (λ l. f .reply ∷ l) (rest .replies)); values = rest .values; port = rest .port; few = rest .few })
 
     -- it finishes none
-    waits : has 0x0D bs ≡ false → Does (c ∷ cs) p vs (feed (answer t) (view p) vs bs)
+    waits : has 0x0D bs ≡ false → Does (c ∷ cs) p vs (feed (controlSpace t) (view p) vs bs)
     unfolding lastPort lastValues replies waiting
     waits e =
-        let s = step-waits (answer t) vs (view p) bs e in
+        let s = step-waits (controlSpace t) vs (view p) bs e in
         let seen : view (c .answer .port) ≡ join (view p) bs = a .seen ∙ ap (λ x. x .port) s in
         let consumed : c .answer .consumed ≡ length bs = a .consumed ∙ ap (λ x. x .consumed) s in
-        let values : c .values ≡ vs = a .values ∙ ap (λ x. x .values) s in
+        let values : c .values ≡ vs = a .state ∙ ap (λ x. x .state) s in
         let w = rw s at (a .reply) in
         let sent : eqb (c .answer .sent) 0 ≡ true = eq-eqb (c .answer .sent) 0 (past-by w) in
-        let next : ended (join (view p) bs) vs ≡ feed (answer t) (view (c .answer .port)) (c .values) (drop (c .answer .consumed) bs) =
-        rw (seen, values, consumed, drop-length bs) (sym (feed-nothing (answer t) (join (view p) bs) vs)) in
-        rw (feed-waits (answer t) (view p) vs bs (claim-view p k) e ∙ next)
+        let next : ended (join (view p) bs) vs ≡ feed (controlSpace t) (view (c .answer .port)) (c .values) (drop (c .answer .consumed) bs) =
+        rw (seen, values, consumed, drop-length bs) (sym (feed-nothing (controlSpace t) (join (view p) bs) vs)) in
+        rw (feed-waits (controlSpace t) (view p) vs bs (claim-view p k) e ∙ next)
         (record { replies = rw sent (rest .replies); values = rest .values; port = rest .port; few = rest .few })
 
   accepted : (c : Made) (p : Port) (vs : List ℤ) (bs : List ℕ) → p .len ≤ lineLimit → Right t vs → replyLimit ≤ length (c .buffer)
-      → Answers t vs p bs (c .buffer) (c .answer) (c .values) (c .after) → Accepted t vs p bs (c .buffer) (c .answer) (c .values) (c .after)
-  accepted c p vs bs k r n a = accept t vs p bs (c .buffer) (c .answer) (c .values) (c .after) is-sound r n k a
+      → Answers t vs p bs (c .buffer) (c .answer) (c .values) (c .after) → Accepted (controlSpace t) vs p bs (c .buffer) (c .answer) (c .values) (c .after)
+  accepted c p vs bs k r n a = answer-accept t vs p bs (c .buffer) (c .answer) (c .values) (c .after) is-sound r n k a
 
   stays-right : (c : Made) (p : Port) (vs : List ℤ) (bs : List ℕ) → Right t vs
-      → Accepted t vs p bs (c .buffer) (c .answer) (c .values) (c .after) → Right t (c .values)
-  stays-right c p vs bs r a = rw (a .values) (step-keeps (answer t) (Right t) (keeps-right t is-sound) (view p) vs bs r)
+      → Accepted (controlSpace t) vs p bs (c .buffer) (c .answer) (c .values) (c .after) → Right t (c .values)
+  stays-right c p vs bs r a = rw (a .state) (step-keeps (controlSpace t) (Right t) (keeps-right t is-sound) (view p) vs bs r)
 
   -- such calls do what feeding byte by byte does
   calls-feed : (cs : List Made) (p : Port) (vs : List ℤ) (bs : List ℕ) → p .len ≤ lineLimit → Right t vs → Plays t cs p vs bs
-      → Does cs p vs (feed (answer t) (view p) vs bs)
+      → Does cs p vs (feed (controlSpace t) (view p) vs bs)
   unfolding lastPort lastValues replies ended
-  calls-feed [] p vs bs k r h = rw (h, feed-nothing (answer t) (view p) vs) (record { replies = refl; values = refl; port = refl; few = k })
+  calls-feed [] p vs bs k r h = rw (h, feed-nothing (controlSpace t) (view p) vs) (record { replies = refl; values = refl; port = refl; few = k })
   calls-feed (c ∷ cs) p vs bs k r h =
       go (has 0x0D bs) refl
       (calls-feed cs (c .answer .port) (c .values) (drop (c .answer .consumed) bs) (made .few) (stays-right c p vs bs r made) (h .2))
     where
-      made : Accepted t vs p bs (c .buffer) (c .answer) (c .values) (c .after)
+      made : Accepted (controlSpace t) vs p bs (c .buffer) (c .answer) (c .values) (c .after)
       made = accepted c p vs bs k r (h .0) (h .1)
 
       go : (b : Bool) → has 0x0D bs ≡ b
-          → Does cs (c .answer .port) (c .values) (feed (answer t) (view (c .answer .port)) (c .values) (drop (c .answer .consumed) bs))
-          → Does (c ∷ cs) p vs (feed (answer t) (view p) vs bs)
+          → Does cs (c .answer .port) (c .values) (feed (controlSpace t) (view (c .answer .port)) (c .values) (drop (c .answer .consumed) bs))
+          → Does (c ∷ cs) p vs (feed (controlSpace t) (view p) vs bs)
       go true e rest = finishes c cs p vs bs k r (h .0) made rest e
       go false e rest = waits c cs p vs bs k r (h .0) made rest e
 
@@ -130,7 +130,7 @@ module _ (t : List ℕ) (is-sound : sound t ≡ true) where
     ending (suc most) p vs (b ∷ bs) l k r =
         let c = make p vs (b ∷ bs) in
         let a = accepted c p vs (b ∷ bs) k r (enough p vs (b ∷ bs)) (promise p vs (b ∷ bs)) in
-        let some : 1 ≤ c .answer .consumed = rw (a .consumed) (consumed-some (answer t) (view p) vs (b ∷ bs) (omega arith)) in
+        let some : 1 ≤ c .answer .consumed = rw (a .consumed) (consumed-some (controlSpace t) (view p) vs (b ∷ bs) (omega arith)) in
         let less : length (drop (c .answer .consumed) (b ∷ bs)) ≤ most = rw (length-drop (c .answer .consumed) (b ∷ bs)) (omega arith) in
         let rest = ending most (c .answer .port) (c .values) (drop (c .answer .consumed) (b ∷ bs)) less (a .few) (stays-right c p vs (b ∷ bs) r a) in
         (c ∷ rest .0, (enough p vs (b ∷ bs), promise p vs (b ∷ bs), rest .1))

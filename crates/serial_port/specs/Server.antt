@@ -1,0 +1,25 @@
+-- What serves the lines of a port: a line's reply, and the state after it.
+pub mod Laws
+use mathlib.Core.List.{List}
+use Prim.Native.Nat.{ℕ}
+use lib.IntN.{ℤ}
+use Rattle.spelling.specs.Acknowledgement.{nak}
+use Rattle.line.specs.Answer.{answer}
+
+-- the one reply to a line, and the state after it
+pub record Reply (S : Type 0) : Type 0 where
+  pub reply : List ℕ
+  pub state : S
+
+-- how lines are served in each state: one of at most 64 bytes, and a longer one
+pub record Server (S : Type 0) : Type 0 where
+  pub line : S → List ℕ → Reply S
+  pub overrun : S → Reply S
+
+-- ControlSpace on the table t, whose state is the values: a line gets its answer; a longer one gets 99 and changes nothing
+unfoldable pub controlSpace : (table : List ℕ) → Server (List ℤ)
+controlSpace t =
+    record {
+      line = λ vs l. record { reply = answer t vs l .reply; state = answer t vs l .values };
+      overrun = λ vs. record { reply = nak 99; state = vs };
+    }
