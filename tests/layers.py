@@ -19,6 +19,8 @@ OPEN = [
     ("syntax Shape.lineLimit", "*", "a limit: 64 bytes of a line"),
     ("serial_port Refusal.replyLimit", "*", "a limit: 64 bytes of a reply buffer"),
     ("room Table.recordLimit", "*", "a limit: 64 records of a table"),
+    ("catalogue Catalogue.rowLimit", "*", "a limit: 33 rows of a module"),
+    ("values Values.valueLimit", "*", "a limit: 2,112 values of a table"),
 ]
 
 root = pathlib.Path(sys.argv[1] if len(sys.argv) > 1 else pathlib.Path(__file__).parent.parent).resolve()

@@ -14,6 +14,7 @@ use Prim.Native.Nat.{ℕ, suc}
 use lib.Dec.{eqb, leb, ltb}
 use lib.IntN.{ℤ, pos, negsuc, negℤ}
 use lib.ListN.{getD}
+use Rattle.catalogue.specs.declared.layout.Layout.{Layout}
 use Rattle.catalogue.specs.declared.row.Indices.{Indices}
 use Rattle.catalogue.specs.declared.row.Indices.the-variants.{OneGroup, TwoGroups}
 use Rattle.catalogue.specs.declared.row.Kind.{Kind}
@@ -107,9 +108,6 @@ unfoldable pub rowsIn : ℕ → List Entry → List Row
 rowsIn owner [] = []
 rowsIn owner (e ∷ es) = cond (eqb (e .owner) owner) (e .row ∷ rowsIn owner es) (rowsIn owner es)
 
-unfoldable pub rowsOf : ℕ → List Row
-rowsOf owner = rowsIn owner catalogue
-
 -- how many rows the module types before it have
 unfoldable pub rowsBefore : ℕ → List Entry → ℕ
 rowsBefore owner [] = 0
@@ -117,6 +115,20 @@ rowsBefore owner (e ∷ es) = cond (ltb (e .owner) owner) (suc (rowsBefore owner
 
 unfoldable pub firstRow : ℕ → ℕ
 firstRow owner = rowsBefore owner catalogue
+
+-- ---- the rows of a module, by its layout
+
+-- a module's kind is a module type
+unfoldable pub knownLayout : Layout → Bool
+knownLayout l = known (l .kind)
+
+-- the rows of a module
+unfoldable pub rowsOf : Layout → List Row
+rowsOf l = rowsIn (l .kind) catalogue
+
+-- how many rows a module may have
+unfoldable pub rowLimit : ℕ
+rowLimit = 33
 
 -- ---- an entry and a row by their numbers
 
@@ -130,9 +142,9 @@ noRow = noEntry .row
 unfoldable pub entryAt : ℕ → Entry
 entryAt n = getD catalogue n noEntry
 
--- row `number` of a module type
-unfoldable pub rowOf : ℕ → ℕ → Row
-rowOf kind number = getD (rowsOf kind) number noRow
+-- row `number` of a module
+unfoldable pub rowOf : Layout → ℕ → Row
+rowOf l number = getD (rowsOf l) number noRow
 
 -- ---- the catalogue as the constant's numbers
 

@@ -1,5 +1,6 @@
 // A row of the catalogue, read from the lent table of numbers.
 use crate::first_row;
+use crate::layout::Layout;
 use crate::row::Indices;
 use crate::row::Kind;
 use crate::row::Row;
@@ -10,7 +11,7 @@ ghost use lib.Dec.{T};
 ghost use lib.IntN.{natAbs};
 ghost use lib.ListN.{length};
 ghost use lib.Signed.{nonNeg};
-ghost use Rattle.catalogue.specs.Catalogue.{catalogue, entryAt, known, numbers, rowOf, rowsOf};
+ghost use Rattle.catalogue.specs.Catalogue.{catalogue, entryAt, knownLayout, numbers, rowOf, rowsOf};
 ghost use Rattle.catalogue.specs.Catalogue.Numbers.{columnAt, indicesFrom, kindFrom};
 ghost use Rattle.catalogue.specs.Row.{permitted};
 
@@ -74,12 +75,12 @@ fn row_at(rows: &[[i32; 8]; 50], n: usize) -> Row
     }
 }
 
-// Row `number` of a module type.
-pub fn row_of(rows: &[[i32; 8]; 50], kind: u8, number: usize) -> Row
-    requires { ⌜ (now rows ≡ numbers) × (known kind ≡ true) × (number < length (rowsOf kind)) ⌝ }
-    ensures { λ r. ⌜ r ≡ rowOf kind number ⌝ }
+// Row `number` of a module.
+pub fn row_of(rows: &[[i32; 8]; 50], layout: Layout, number: usize) -> Row
+    requires { ⌜ (now rows ≡ numbers) × (knownLayout layout ≡ true) × (number < length (rowsOf layout)) ⌝ }
+    ensures { λ r. ⌜ r ≡ rowOf layout number ⌝ }
 {
-    row_at(rows, first_row(kind) + number)
+    row_at(rows, first_row(layout.kind) + number)
 }
 
 // Whether row n of the table permits the value v; no row is built, and the row's numbers are narrow.

@@ -17,6 +17,7 @@ use Rattle.catalogue.specs.Catalogue.{minus, level, switch, number, catalogue, 
 use Rattle.catalogue.specs.Row.{permitted, sameIndices}
 use Rattle.room.specs.Table.{recordLimit, modulesFrom, modules}
 use Rattle.record.specs.Body.{bodyLength}
+use Rattle.record.specs.Layout.{layoutOf}
 use Rattle.room.specs.Label.{label, same, bearersIn, exactlyOne, bearer}
 use Rattle.values.specs.Parameters.{numbered, parametersOf, place, withIndices, named}
 use Rattle.syntax.specs.Shape.{lineLimit, isSet, isGet, opening, closing, equals, getShape, setShape, quoted, shape}
@@ -96,7 +97,7 @@ pub worked : every answered cases ≡ true
 unfolding answered cases bytes puts told refused tableA oneByteRecord zeros sameAnswer sameValues equal
     indexOf has before after isDigit allDigits every readOn numberOf digitsWithin digits
     signed levelTenth levelPoint levelMore levelWhole readLevel numberForm readNumber switchLetter readSwitch switchText
-    minus level switch number catalogue rowsIn rowsOf permitted bodyLength recordLimit modulesFrom modules
+    minus level switch number catalogue rowsIn rowsOf permitted bodyLength layoutOf recordLimit modulesFrom modules
     label same bearersIn exactlyOne bearer numbered parametersOf place sameIndices withIndices named
     lineLimit isSet isGet opening firstFrom closing equals getShape setShape quoted shape part
     oneGroup twoGroups groups readIndices ofLevel ofNumber ofSwitch readKind onlyPermitted readValue

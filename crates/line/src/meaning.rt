@@ -15,7 +15,7 @@ ghost use mathlib.Core.Path.{_≡_};
 ghost use lib.IntN.{pos};
 ghost use lib.ListN.{getD, length};
 ghost use Prim.Native.Nat.{_+_, _<_};
-ghost use Rattle.catalogue.specs.Catalogue.{known, numbers};
+ghost use Rattle.catalogue.specs.Catalogue.{knownLayout, numbers};
 ghost use Rattle.room.specs.Label.{bearer};
 ghost use Rattle.text.specs.Cut.{part};
 ghost use Rattle.values.specs.Parameters.{place};
@@ -41,7 +41,7 @@ enum Target {
 
 // The parameter of a module that an index part names.
 fn indexed(rows: &[[i32; 8]; 50], m: Module, part: &[u8]) -> ParameterFound
-    requires { ⌜ (now rows ≡ numbers) × (known (m .kind) ≡ true) ⌝ }
+    requires { ⌜ (now rows ≡ numbers) × (knownLayout (m .layout) ≡ true) ⌝ }
     ensures { λ r. ⌜ r ≡ indexed m (readIndices (now (part .entry))) ⌝ }
 {
     match read_indices(part) {

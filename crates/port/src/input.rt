@@ -4,6 +4,7 @@ use crate::standard_input::Turn;
 use crate::standard_input::answer_read;
 use catalogue::table::all_rows;
 use serial_port::port::Port;
+use values::VALUES;
 use values::starts::fill_starts;
 ghost use mathlib.Core.Bool.{true};
 ghost use mathlib.Core.Path.{_≡_};
@@ -11,7 +12,7 @@ ghost use Prim.Native.Nat.{_*_, _≤_};
 ghost use lib.ListN.{length};
 ghost use Rattle.catalogue.specs.Catalogue.{numbers};
 ghost use Rattle.room.specs.Table.{sound};
-ghost use Rattle.values.specs.Values.{valuesSound};
+ghost use Rattle.values.specs.Values.{valueLimit, valuesSound};
 ghost use Rattle.port.specs.Input.{AnswersAll};
 
 // Answers read after read, until the input ends or a reply cannot be written, and hands the last answer back. A proved loop has to end, and nothing
@@ -47,11 +48,9 @@ fn answer_all(
     }
 }
 
-// As many values as a table may have: 33 rows for each of its modules.
-const VALUES: usize = Port::MODULES * 33;
-
+// As many values as a table may have.
 fn value_list() -> [i64; VALUES]
-    ensures { λ r. ⌜ 2112 ≡ length r ⌝ }
+    ensures { λ r. ⌜ valueLimit ≡ length r ⌝ }
 {
     [0; VALUES]
 }

@@ -5,7 +5,7 @@ use mathlib.Core.Bool.{Bool, _&&_}
 use mathlib.Core.List.{List}
 use Prim.Native.Nat.{ℕ}
 use lib.Dec.{eqb}
-use lib.ListN.{length}
+use lib.ListN.{length, take}
 use Rattle.catalogue.specs.Catalogue.{known}
 use Rattle.record.specs.Field.{fieldSound}
 
@@ -13,6 +13,6 @@ use Rattle.record.specs.Field.{fieldSound}
 unfoldable pub bodyLength : ℕ → ℕ
 bodyLength kind = 32
 
--- a kind's body: the label's field
+-- a kind's body begins with the label's field
 unfoldable pub bodySound : ℕ → List ℕ → Bool
-bodySound kind body = known kind && eqb (length body) (bodyLength kind) && fieldSound body
+bodySound kind body = known kind && eqb (length body) (bodyLength kind) && fieldSound (take 32 body)

@@ -1,3 +1,4 @@
--- A record of the module table: its kind, and its body, the field of a label.
+-- A record of the module table: its kind, and its body, which begins with the field of a label.
 pub mod Body
 pub mod Field
+pub mod Layout

@@ -31,5 +31,5 @@ pub fn body_sound(kind: u8, body: &[u8]) -> bool
     if body.len() != body_length(kind) {
         return false;
     }
-    field_sound(body)
+    field_sound(&body[..32])
 }

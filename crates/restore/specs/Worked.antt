@@ -18,6 +18,7 @@ use Rattle.catalogue.specs.Row.{permitted}
 use Rattle.room.specs.Refusal.{firstRefusal}
 use Rattle.room.specs.Table.{recordsSound, recordLimit, sound, tableNumber, modulesFrom, modules}
 use Rattle.record.specs.Body.{bodyLength, bodySound}
+use Rattle.record.specs.Layout.{layoutOf}
 use Rattle.record.specs.Field.{labelByte, labelRight, isZero, fieldSound}
 use Rattle.room.specs.Label.{label, same, bearersIn, exactlyOne, bearer}
 use Rattle.values.specs.Parameters.{numbered, parametersOf, parametersIn, parameters}
@@ -88,7 +89,7 @@ lists-shown : every shown (map list lists) ≡ true
 unfolding shown agrees called lists four wishes ended bytes tableA oneByteRecord zeros
     indexOf before every digitsWithin digits signText tenthText shortTenthText wholeText levelText switchText
     minus level switch number catalogue known rowsIn rowsOf permitted
-    labelByte labelRight isZero fieldSound bodyLength bodySound recordsSound recordLimit sound modulesFrom modules
+    labelByte labelRight isZero fieldSound bodyLength bodySound layoutOf recordsSound recordLimit sound modulesFrom modules
     label same bearersIn exactlyOne bearer numbered parametersOf parametersIn parameters eachPermitted valuesSound
     indexText name textOf say atMostOne selectionRight chosen chosenPermitted wantedRight targetOf target equal
     changesOf changes lineOf listing borneOnce reachable allReachable

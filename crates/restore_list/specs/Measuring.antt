@@ -10,11 +10,11 @@ pub mod Whole
 use mathlib.Core.Path.{_≡_}
 use mathlib.Core.Bool.{Bool, true, cond}
 use mathlib.Core.List.{List, []}
-use Prim.Native.Nat.{ℕ, _+_, _≤_, _<_}
+use Prim.Native.Nat.{ℕ, _+_, _*_, _≤_, _<_}
 use lib.Dec.{eqb, leb}
 use lib.IntN.{ℤ}
 use lib.ListN.{length, getD, take, drop}
-use Rattle.catalogue.specs.Catalogue.{known, rowsOf}
+use Rattle.catalogue.specs.Catalogue.{knownLayout, rowLimit, rowsOf}
 use Rattle.values.specs.Parameters.{parametersOf}
 use Rattle.room.specs.Table.{sound}
 use Rattle.room.specs.declared.table.Module.{Module}
@@ -29,7 +29,7 @@ rowChanges m vs ws = changesOf (parametersOf m) vs ws
 
 -- a module's own values
 unfoldable pub valuesOf : Module → List ℤ → List ℤ
-valuesOf m vs = take (length (rowsOf (m .kind))) (drop (m .first) vs)
+valuesOf m vs = take (length (rowsOf (m .layout))) (drop (m .first) vs)
 
 -- the wanted changes of any module: none where it is not chosen
 unfoldable pub moduleChanges : (selection : List ℕ) → Module → (present wanted : List ℤ) → List Change
@@ -38,11 +38,11 @@ moduleChanges selection m vs ws = cond (eqb (getD selection (m .number) 0) 1) (r
 -- the module stands in the table, its byte in the selection and its values in the lists
 pub record Standing (t : List ℕ) (present : List ℤ) (selection : List ℕ) (wanted : List ℤ) (m : Module) : Type 0 where
   pub sounds : sound t ≡ true
-  pub kinds : known (m .kind) ≡ true
+  pub known : knownLayout (m .layout) ≡ true
   pub room : m .place + 33 ≤ length t
   pub byte : m .number < length selection
-  pub values : m .first + length (rowsOf (m .kind)) ≤ length present
-  pub wishes : m .first + length (rowsOf (m .kind)) ≤ length wanted
+  pub values : m .first + length (rowsOf (m .layout)) ≤ length present
+  pub wishes : m .first + length (rowsOf (m .layout)) ≤ length wanted
 
 -- the bytes and lines of some changes, if they can be listed
 unfoldable pub measuredIf : Bool → (table : List ℕ) → List Change → Measured
@@ -58,8 +58,8 @@ measuredNumber (Within bytes lines) room = cond (leb bytes room) 0 8
 
 -- the bytes and lines of a module are few
 pub record Few (r : Measured) : Type 0 where
-  pub bytes : (b l : ℕ) → r ≡ Within b l → b ≤ 4224
-  pub lines : (b l : ℕ) → r ≡ Within b l → l ≤ 33
+  pub bytes : (b l : ℕ) → r ≡ Within b l → b ≤ 128 * rowLimit
+  pub lines : (b l : ℕ) → r ≡ Within b l → l ≤ rowLimit
 
 -- what measuring a module's rows answers
 pub record Settles (t : List ℕ) (cs : List Change) (r : Measured) : Type 0 where

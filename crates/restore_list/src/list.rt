@@ -2,6 +2,7 @@
 use crate::module_writing::write_rows;
 use catalogue::row_count;
 use record::body::body_length;
+use record::layout::layout_at;
 use room::label::label_length;
 use room::table::Module;
 ghost use mathlib.Core.Path.{_≡_};
@@ -33,7 +34,7 @@ fn write_module(
     }
     let size = label_length(table, m.place);
     let first = m.first;
-    let end = first + row_count(m.kind);
+    let end = first + row_count(m.layout);
     write_rows(
         table,
         rows,
@@ -64,17 +65,17 @@ pub fn write(
     let mut first = 0;
     let mut at = 0;
     while place < table.len() {
-        let kind = table[place];
+        let layout = layout_at(table, place);
         let m = Module {
             number,
             place,
-            kind,
+            layout,
             first,
         };
         at = write_module(table, rows, m, present, selection, wanted, list, at);
         number += 1;
-        place = place + 1 + body_length(kind);
-        first += row_count(kind);
+        place = place + 1 + body_length(layout.kind);
+        first += row_count(layout);
     }
     at
 }

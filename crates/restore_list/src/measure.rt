@@ -4,6 +4,7 @@ use crate::module_measuring::borne_once;
 use crate::module_measuring::row_lines;
 use catalogue::row_count;
 use record::body::body_length;
+use record::layout::layout_at;
 use room::label::label_length;
 use room::table::Module;
 ghost use mathlib.Core.Path.{_≡_};
@@ -28,7 +29,7 @@ fn module_lines(
     ensures { λ r. ⌜ Settles (now (table .entry)) (rowChanges m (valuesOf m (now (present .entry))) (valuesOf m (now (wanted .entry)))) r ⌝ }
 {
     let first = m.first;
-    let end = first + row_count(m.kind);
+    let end = first + row_count(m.layout);
     row_lines(
         table,
         rows,
@@ -87,11 +88,11 @@ pub fn measure(
     let mut bytes = 0;
     let mut lines = 0;
     while place < table.len() {
-        let kind = table[place];
+        let layout = layout_at(table, place);
         let m = Module {
             number,
             place,
-            kind,
+            layout,
             first,
         };
         match measure_module(table, rows, m, present, selection, wanted) {
@@ -102,8 +103,8 @@ pub fn measure(
             }
         }
         number += 1;
-        place = place + 1 + body_length(kind);
-        first += row_count(kind);
+        place = place + 1 + body_length(layout.kind);
+        first += row_count(layout);
     }
     Measured::Within(bytes, lines)
 }

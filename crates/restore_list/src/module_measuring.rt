@@ -9,7 +9,7 @@ ghost use mathlib.Core.Bool.{true};
 ghost use mathlib.Core.Path.{_≡_};
 ghost use Prim.Native.Nat.{_+_, _≤_};
 ghost use lib.ListN.{length};
-ghost use Rattle.catalogue.specs.Catalogue.{known, numbers, rowsOf};
+ghost use Rattle.catalogue.specs.Catalogue.{knownLayout, numbers, rowsOf};
 ghost use Rattle.room.specs.Label.{bearer, label};
 ghost use Rattle.room.specs.Table.{sound};
 ghost use Rattle.wish.specs.Listing.{borneOnce};
@@ -30,11 +30,11 @@ pub(crate) fn row_lines(
     present: &[i64],
     wanted: &[i64],
 ) -> Measured
-    requires { ⌜ (now rows ≡ numbers) × (known (m .kind) ≡ true) × (size ≡ length (label (now table) m)) ⌝ }
-    requires { ⌜ (length (now present) ≡ length (rowsOf (m .kind))) × (length (now wanted) ≡ length (rowsOf (m .kind))) ⌝ }
+    requires { ⌜ (now rows ≡ numbers) × (knownLayout (m .layout) ≡ true) × (size ≡ length (label (now table) m)) ⌝ }
+    requires { ⌜ (length (now present) ≡ length (rowsOf (m .layout))) × (length (now wanted) ≡ length (rowsOf (m .layout))) ⌝ }
     ensures { λ r. ⌜ Settles (now (table .entry)) (rowChanges m (now (present .entry)) (now (wanted .entry))) r ⌝ }
 {
-    let kind = m.kind;
+    let layout = m.layout;
     let mut bytes = 0;
     let mut lines = 0;
     let mut j = 0;
@@ -46,7 +46,7 @@ pub(crate) fn row_lines(
         if from == to {
             continue;
         }
-        let row = row_of(rows, kind, number);
+        let row = row_of(rows, layout, number);
         if !row.settable {
             return Measured::Beyond;
         }

@@ -7,7 +7,7 @@ ghost use mathlib.Core.Bool.{true};
 ghost use mathlib.Core.Path.{_≡_};
 ghost use Prim.Native.Nat.{_+_, _≤_};
 ghost use lib.ListN.{length};
-ghost use Rattle.catalogue.specs.Catalogue.{known, numbers, rowsOf};
+ghost use Rattle.catalogue.specs.Catalogue.{knownLayout, numbers, rowsOf};
 ghost use Rattle.room.specs.Label.{label};
 ghost use Rattle.wish.specs.Listing.{listing};
 ghost use Rattle.restore_list.specs.Measuring.{rowChanges};
@@ -43,12 +43,12 @@ pub(crate) fn write_rows(
     list: &mut [u8],
     start: usize,
 ) -> usize
-    requires { ⌜ (now rows ≡ numbers) × (known (m .kind) ≡ true) × (m .place + 33 ≤ length (now table)) × (size ≡ length (label (now table) m)) ⌝ }
-    requires { ⌜ (length (now present) ≡ length (rowsOf (m .kind))) × (length (now wanted) ≡ length (rowsOf (m .kind))) ⌝ }
+    requires { ⌜ (now rows ≡ numbers) × (knownLayout (m .layout) ≡ true) × (m .place + 33 ≤ length (now table)) × (size ≡ length (label (now table) m)) ⌝ }
+    requires { ⌜ (length (now present) ≡ length (rowsOf (m .layout))) × (length (now wanted) ≡ length (rowsOf (m .layout))) ⌝ }
     requires { ⌜ start + length (listing (now table) (rowChanges m (now present) (now wanted))) ≤ length (now list) ⌝ }
     ensures { λ r. ⌜ Wrote (now (list .entry)) start (listing (now (table .entry)) (rowChanges m (now (present .entry)) (now (wanted .entry)))) r (now (list .exit)) ⌝ }
 {
-    let kind = m.kind;
+    let layout = m.layout;
     let mut at = start;
     let mut j = 0;
     while j < present.len() {
@@ -62,7 +62,7 @@ pub(crate) fn write_rows(
         let p = Parameter {
             owner: m,
             number,
-            row: row_of(rows, kind, number),
+            row: row_of(rows, layout, number),
         };
         at = write_line(table, p, size, from, to, list, at);
     }

@@ -10,6 +10,7 @@ use Prim.Native.Nat.{ℕ, zero, suc, _+_}
 use lib.ListN.{length, take, drop}
 use Rattle.catalogue.specs.Catalogue.{rowsOf}
 use Rattle.record.specs.Body.{bodyLength, bodySound}
+use Rattle.record.specs.Layout.{layoutOf}
 use Rattle.room.specs.declared.table.Module.{Module}
 use Rattle.room.specs.declared.table.ModuleFound.{ModuleFound}
 use Rattle.room.specs.declared.table.ModuleFound.the-variants.{At, Nothing}
@@ -33,13 +34,14 @@ sound t = recordsSound recordLimit t
 unfoldable pub tableNumber : List ℕ → ℕ
 tableNumber t = cond (sound t) 0 1
 
--- the modules of at most `left` records: each with its number, the place of its record, its kind, and the number of its first value
+-- the modules of at most `left` records: each with its number, the place of its record, its layout, and the number of its first value
 unfoldable pub modulesFrom : (left number place first : ℕ) → List ℕ → List Module
 modulesFrom zero number place first t = []
 modulesFrom (suc left) number place first [] = []
 modulesFrom (suc left) number place first (kind ∷ t) =
-    record { number = number; place = place; kind = kind; first = first } ∷
-    modulesFrom left (number + 1) (place + 1 + bodyLength kind) (first + length (rowsOf kind)) (drop (bodyLength kind) t)
+    let layout = layoutOf kind (take (bodyLength kind) t) in
+    record { number = number; place = place; layout = layout; first = first } ∷
+    modulesFrom left (number + 1) (place + 1 + bodyLength kind) (first + length (rowsOf layout)) (drop (bodyLength kind) t)
 
 -- the modules of a sound table, in its order
 unfoldable pub modules : List ℕ → List Module

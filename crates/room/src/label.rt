@@ -3,6 +3,7 @@ use crate::table::Module;
 use catalogue::row_count;
 use record::body::body_length;
 use record::field::label_right;
+use record::layout::layout_at;
 use text::cut::find;
 ghost use mathlib.Core.Bool.{true};
 ghost use mathlib.Core.Path.{_≡_};
@@ -42,17 +43,17 @@ pub fn find_bearer(table: &[u8], text: &[u8]) -> Bearer
         if table.len() <= place {
             break found;
         }
-        let kind = table[place];
+        let layout = layout_at(table, place);
         let here = Module {
             number,
             place,
-            kind,
+            layout,
             first,
         };
         let label = place + 1;
         number += 1;
-        place = label + body_length(kind);
-        first += row_count(kind);
+        place = label + body_length(layout.kind);
+        first += row_count(layout);
         // From the end on: the labels of a room are more alike at their beginnings.
         let mut i = text.len();
         while 0 < i {

@@ -1,7 +1,9 @@
 // The module table.
+use catalogue::layout::Layout;
 use catalogue::row_count;
 use record::body::body_length;
 use record::body::body_sound;
+use record::layout::layout_at;
 ghost use mathlib.Core.Bool.{true};
 ghost use mathlib.Core.Path.{_≡_};
 ghost use Rattle.room.specs.Table.{moduleAt, modules, sound, tableNumber};
@@ -9,11 +11,11 @@ ghost use Rattle.room.specs.Table.{moduleAt, modules, sound, tableNumber
 // How many records a table may have.
 pub const MODULES: usize = 64;
 
-// A module: its number and its place in the table, its kind, and the number of its first value.
+// A module: its number and its place in the table, its layout, and the number of its first value.
 pub struct Module {
     pub number: usize,
     pub place: usize,
-    pub kind: u8,
+    pub layout: Layout,
     pub first: usize,
 }
 
@@ -67,18 +69,18 @@ pub fn module_at(table: &[u8], number: usize) -> ModuleFound
     let mut place = 0;
     let mut first = 0;
     while place < table.len() {
-        let kind = table[place];
+        let layout = layout_at(table, place);
         if at == number {
             return ModuleFound::At(Module {
                 number,
                 place,
-                kind,
+                layout,
                 first,
             });
         }
         at += 1;
-        place = place + 1 + body_length(kind);
-        first += row_count(kind);
+        place = place + 1 + body_length(layout.kind);
+        first += row_count(layout);
     }
     ModuleFound::Nothing
 }

@@ -28,7 +28,7 @@ numbered m number (r ∷ rs) = record { owner = m; number = number; row = r } �
 
 -- a module's parameters: its rows, numbered from 0
 unfoldable pub parametersOf : Module → List Parameter
-parametersOf m = numbered m 0 (rowsOf (m .kind))
+parametersOf m = numbered m 0 (rowsOf (m .layout))
 
 unfoldable pub parametersIn : List Module → List Parameter
 parametersIn [] = []

@@ -4,13 +4,19 @@ pub mod parameter;
 pub mod starts;
 
 use crate::module_values::module_fits;
+use catalogue::ROWS;
 use catalogue::row_count;
 use record::body::body_length;
+use record::layout::layout_at;
+use room::table::MODULES;
 ghost use mathlib.Core.Bool.{true};
 ghost use mathlib.Core.Path.{_≡_};
 ghost use Rattle.catalogue.specs.Catalogue.{numbers};
 ghost use Rattle.room.specs.Table.{sound};
 ghost use Rattle.values.specs.Values.{valuesNumber, valuesSound};
+
+// How many values a table may have.
+pub const VALUES: usize = MODULES * ROWS;
 
 // Whether a list has one entry for each parameter, and each is permitted.
 fn are_sound(table: &[u8], rows: &[[i32; 8]; 50], values: &[i64]) -> bool
@@ -22,17 +28,17 @@ fn are_sound(table: &[u8], rows: &[[i32; 8]; 50], values: &[i64]) -> bool
     let mut place = 0;
     let mut first = 0;
     while place < table.len() {
-        let kind = table[place];
-        let count = row_count(kind);
+        let layout = layout_at(table, place);
+        let count = row_count(layout);
         if values.len() - first < count {
             return false;
         }
         let end = first + count;
-        if !module_fits(rows, kind, &values[first..end]) {
+        if !module_fits(rows, layout, &values[first..end]) {
             return false;
         }
         number += 1;
-        place = place + 1 + body_length(kind);
+        place = place + 1 + body_length(layout.kind);
         first = end;
     }
     first == values.len()

@@ -1,21 +1,21 @@
 // The values of one module: whether each is permitted for its row.
 use catalogue::first_row;
+use catalogue::layout::Layout;
 use catalogue::lent_row::row_permits;
 ghost use mathlib.Core.Bool.{true};
 ghost use mathlib.Core.Path.{_≡_};
 ghost use lib.ListN.{length};
-ghost use Rattle.catalogue.specs.Catalogue.{known, numbers, rowsOf};
+ghost use Rattle.catalogue.specs.Catalogue.{knownLayout, numbers, rowsOf};
 ghost use Rattle.values.specs.Permit.{rowsPermit};
 
 // Whether each value of a module is permitted for its row.
-pub fn module_fits(rows: &[[i32; 8]; 50], kind: u8, values: &[i64]) -> bool
-    requires { ⌜ (now rows ≡ numbers) × (known kind ≡ true) × (length (now values) ≡ length (rowsOf kind)) ⌝ }
-    ensures { λ r. ⌜ r ≡ rowsPermit (rowsOf kind) (now (values .entry)) ⌝ }
+pub fn module_fits(rows: &[[i32; 8]; 50], layout: Layout, values: &[i64]) -> bool
+    requires { ⌜ (now rows ≡ numbers) × (knownLayout layout ≡ true) × (length (now values) ≡ length (rowsOf layout)) ⌝ }
+    ensures { λ r. ⌜ r ≡ rowsPermit (rowsOf layout) (now (values .entry)) ⌝ }
 {
-    let first = first_row(kind);
     let mut j = 0;
     while j < values.len() {
-        if !row_permits(rows, first + j, values[j]) {
+        if !row_permits(rows, first_row(layout.kind) + j, values[j]) {
             return false;
         }
         j += 1;

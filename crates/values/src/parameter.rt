@@ -5,11 +5,12 @@ use catalogue::row::Row;
 use catalogue::row::same_indices;
 use catalogue::row_count;
 use record::body::body_length;
+use record::layout::layout_at;
 use room::table::Module;
 ghost use mathlib.Core.Bool.{true};
 ghost use mathlib.Core.Path.{_≡_};
 ghost use lib.ListN.{length};
-ghost use Rattle.catalogue.specs.Catalogue.{known, numbers};
+ghost use Rattle.catalogue.specs.Catalogue.{knownLayout, numbers};
 ghost use Rattle.values.specs.Parameters.{named, parameterAt, parameters};
 ghost use Rattle.room.specs.Table.{sound};
 
@@ -27,14 +28,14 @@ pub enum ParameterFound {
 
 // The parameter of a module whose row has the indices.
 pub fn named(rows: &[[i32; 8]; 50], m: Module, indices: Indices) -> ParameterFound
-    requires { ⌜ (now rows ≡ numbers) × (known (m .kind) ≡ true) ⌝ }
+    requires { ⌜ (now rows ≡ numbers) × (knownLayout (m .layout) ≡ true) ⌝ }
     ensures { λ r. ⌜ r ≡ named m indices ⌝ }
 {
-    let kind = m.kind;
-    let count = row_count(kind);
+    let layout = m.layout;
+    let count = row_count(layout);
     let mut j = 0;
     while j < count {
-        let row = row_of(rows, kind, j);
+        let row = row_of(rows, layout, j);
         let have = row.indices;
         if same_indices(have, indices) {
             return ParameterFound::At(Parameter {
@@ -58,10 +59,10 @@ pub(crate) fn parameter_count(table: &[u8]) -> usize
     let mut at = 0;
     let mut passed = 0;
     while at < table.len() {
-        let kind = table[at];
+        let layout = layout_at(table, at);
         records += 1;
-        at = at + 1 + body_length(kind);
-        let count = row_count(kind);
+        at = at + 1 + body_length(layout.kind);
+        let count = row_count(layout);
         passed += count;
     }
     passed
@@ -76,15 +77,15 @@ pub(crate) fn parameter_at(table: &[u8], rows: &[[i32; 8]; 50], k: usize) -> Par
     let mut place = 0;
     let mut first = 0;
     while place < table.len() {
-        let kind = table[place];
-        let count = row_count(kind);
+        let layout = layout_at(table, place);
+        let count = row_count(layout);
         if k - first < count {
             let within = k - first;
-            let row = row_of(rows, kind, within);
+            let row = row_of(rows, layout, within);
             let owner = Module {
                 number,
                 place,
-                kind,
+                layout,
                 first,
             };
             return ParameterFound::At(Parameter {
@@ -94,7 +95,7 @@ pub(crate) fn parameter_at(table: &[u8], rows: &[[i32; 8]; 50], k: usize) -> Par
             });
         }
         number += 1;
-        place = place + 1 + body_length(kind);
+        place = place + 1 + body_length(layout.kind);
         first += count;
     }
     ParameterFound::Nothing

@@ -1,13 +1,15 @@
 // The chosen modules and their wanted values, and the restore list as a definition.
 
+use catalogue::layout::Layout;
 use catalogue::row_count;
 use record::body::body_length;
+use record::layout::layout_at;
 use values::module_values::module_fits;
 ghost use mathlib.Core.Bool.{not, true, _||_};
 ghost use mathlib.Core.Path.{_≡_};
 ghost use lib.Dec.{eqb};
 ghost use lib.ListN.{length};
-ghost use Rattle.catalogue.specs.Catalogue.{known, numbers, rowsOf};
+ghost use Rattle.catalogue.specs.Catalogue.{knownLayout, numbers, rowsOf};
 ghost use Rattle.room.specs.Table.{sound};
 ghost use Rattle.values.specs.Permit.{rowsPermit};
 ghost use Rattle.wish.specs.Target.{selectionRight, wantedRight};
@@ -34,14 +36,14 @@ pub fn selection_right(table: &[u8], selection: &[u8]) -> bool
 }
 
 // Whether a module's wanted values are permitted, where it is chosen.
-fn module_right(rows: &[[i32; 8]; 50], selected: u8, kind: u8, wanted: &[i64]) -> bool
-    requires { ⌜ (now rows ≡ numbers) × (known kind ≡ true) × (length (now wanted) ≡ length (rowsOf kind)) ⌝ }
-    ensures { λ r. ⌜ r ≡ (not (eqb selected 1) || rowsPermit (rowsOf kind) (now (wanted .entry))) ⌝ }
+fn module_right(rows: &[[i32; 8]; 50], selected: u8, layout: Layout, wanted: &[i64]) -> bool
+    requires { ⌜ (now rows ≡ numbers) × (knownLayout layout ≡ true) × (length (now wanted) ≡ length (rowsOf layout)) ⌝ }
+    ensures { λ r. ⌜ r ≡ (not (eqb selected 1) || rowsPermit (rowsOf layout) (now (wanted .entry))) ⌝ }
 {
     if selected != 1 {
         return true;
     }
-    module_fits(rows, kind, wanted)
+    module_fits(rows, layout, wanted)
 }
 
 // Whether the wanted list has one entry for each parameter, and each chosen module's entry is permitted.
@@ -53,17 +55,17 @@ pub fn wanted_right(table: &[u8], rows: &[[i32; 8]; 50], selection: &[u8], wante
     let mut place = 0;
     let mut first = 0;
     while place < table.len() {
-        let kind = table[place];
-        let count = row_count(kind);
+        let layout = layout_at(table, place);
+        let count = row_count(layout);
         if wanted.len() - first < count {
             return false;
         }
         let end = first + count;
-        if !module_right(rows, selection[number], kind, &wanted[first..end]) {
+        if !module_right(rows, selection[number], layout, &wanted[first..end]) {
             return false;
         }
         number += 1;
-        place = place + 1 + body_length(kind);
+        place = place + 1 + body_length(layout.kind);
         first = end;
     }
     first == wanted.len()

@@ -4,13 +4,14 @@ use catalogue::table::all_rows;
 use room::table::is_sound;
 use serial_port::port::Port;
 use text::cut::find;
+use values::VALUES;
 use values::starts::fill_starts;
 ghost use mathlib.Core.Bool.{true};
 ghost use mathlib.Core.Path.{_≡_};
 ghost use Prim.Native.Nat.{_≤_};
 ghost use lib.ListN.{length};
 ghost use Rattle.room.specs.Table.{sound};
-ghost use Rattle.values.specs.Values.{valuesSound};
+ghost use Rattle.values.specs.Values.{valueLimit, valuesSound};
 ghost use Rattle.worked.specs.Script.{Plays, outcome, tally, told};
 ghost use Rattle.worked.specs.Script.{through as Script·through};
 
@@ -77,11 +78,9 @@ fn play_lines(table: &[u8], values: &mut [i64], script: &[u8]) -> Tally
     Tally { right, at }
 }
 
-// As many values as a table may have: 33 rows for each of its modules.
-const VALUES: usize = Port::MODULES * 33;
-
+// As many values as a table may have.
 fn value_list() -> [i64; VALUES]
-    ensures { λ r. ⌜ 2112 ≡ length r ⌝ }
+    ensures { λ r. ⌜ valueLimit ≡ length r ⌝ }
 {
     [0; VALUES]
 }

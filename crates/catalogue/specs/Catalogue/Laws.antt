@@ -1,4 +1,4 @@
--- Laws of the catalogue: the module types are the six, and each type's rows are a run of the catalogue.
+-- Laws of the catalogue: the module types are the six, and a module's rows are its type's run of the catalogue.
 use mathlib.Core.Path.{_≡_, refl, ap, sym, _∙_}
 use mathlib.Core.Bool.{true, false}
 use mathlib.Core.List.{List, _∷_, map}
@@ -13,7 +13,8 @@ use lib.Seq.{drop-cons, getD-take, getD-drop}
 use mir.Syntax.{w64}
 use mir.Val.{Fits}
 use Rattle.text.specs.Every.Laws.{both-left, both-right}
-use Rattle.catalogue.specs.Catalogue.{Entry, catalogue, entryAt, firstRow, known, level, minus, noEntry, noRow, number, rowOf, rowsBefore, rowsIn, rowsOf, switch}
+use Rattle.catalogue.specs.Catalogue.{Entry, catalogue, entryAt, firstRow, known, knownLayout, level, minus, noEntry, noRow, number, rowLimit, rowOf, rowsBefore, rowsIn, rowsOf, switch}
+use Rattle.catalogue.specs.declared.layout.Layout.{Layout}
 use Rattle.catalogue.specs.declared.row.Row.{Row}
 
 -- the bounds of a module type
@@ -56,65 +57,87 @@ at-type g kind type n e h = h ∙ ap g (sym e)
 pub sixth : (kind : ℕ) → known kind ≡ true → (kind ≡ 1 → ⊥) → (kind ≡ 2 → ⊥) → (kind ≡ 3 → ⊥) → (kind ≡ 4 → ⊥) → (kind ≡ 5 → ⊥) → kind ≡ 6
 sixth kind e a b c d f = let k = known-bounds kind e in omega arith
 
--- a type's rows stand together in the catalogue, from its first on
-abbrev Run : ℕ → Type 0
-Run kind = rowsOf kind ≡ map (λ (e : Entry). e .row) (take (length (rowsOf kind)) (drop (firstRow kind) catalogue))
+-- a module's kind is a type
+pub known-kind : (l : Layout) → knownLayout l ≡ true → known (l .kind) ≡ true
+unfolding knownLayout
+known-kind l k = k
 
-pub run : (kind : ℕ) → known kind ≡ true → Run kind
-unfolding rowsOf rowsIn firstRow rowsBefore catalogue level switch number minus
-run = each-type Run refl refl refl refl refl refl
+pub kind-known : (l : Layout) → known (l .kind) ≡ true → knownLayout l ≡ true
+unfolding knownLayout
+kind-known l k = k
+
+-- a type's rows stand together in the catalogue, from its first on
+abbrev RunIn : ℕ → Type 0
+RunIn kind = rowsIn kind catalogue ≡ map (λ (e : Entry). e .row) (take (length (rowsIn kind catalogue)) (drop (firstRow kind) catalogue))
+
+run-in : (kind : ℕ) → known kind ≡ true → RunIn kind
+unfolding rowsIn firstRow rowsBefore catalogue level switch number minus
+run-in = each-type RunIn refl refl refl refl refl refl
+
+pub run : (l : Layout) → knownLayout l ≡ true → rowsOf l ≡ map (λ (e : Entry). e .row) (take (length (rowsOf l)) (drop (firstRow (l .kind)) catalogue))
+unfolding rowsOf
+run l k = run-in (l .kind) (known-kind l k)
 
 -- and end within it
-pub run-ends : (kind : ℕ) → known kind ≡ true → firstRow kind + length (rowsOf kind) ≤ length catalogue
-unfolding rowsOf rowsIn firstRow rowsBefore catalogue level switch number minus
-run-ends = each-type (λ k. firstRow k + length (rowsOf k) ≤ length catalogue) (lit≤ tt) (lit≤ tt) (lit≤ tt) (lit≤ tt) (lit≤ tt) (lit≤ tt)
+ends-in : (kind : ℕ) → known kind ≡ true → firstRow kind + length (rowsIn kind catalogue) ≤ length catalogue
+unfolding rowsIn firstRow rowsBefore catalogue level switch number minus
+ends-in = each-type (λ k. firstRow k + length (rowsIn k catalogue) ≤ length catalogue) (lit≤ tt) (lit≤ tt) (lit≤ tt) (lit≤ tt) (lit≤ tt) (lit≤ tt)
 
--- no module type has more than 33 rows
-pub rows-few : (kind : ℕ) → known kind ≡ true → length (rowsOf kind) ≤ 33
-unfolding rowsOf rowsIn catalogue level switch number minus
-rows-few = each-type (λ k. length (rowsOf k) ≤ 33) (lit≤ tt) (lit≤ tt) (lit≤ tt) (lit≤ tt) (lit≤ tt) (lit≤ tt)
+pub run-ends : (l : Layout) → knownLayout l ≡ true → firstRow (l .kind) + length (rowsOf l) ≤ length catalogue
+unfolding rowsOf
+run-ends l k = ends-in (l .kind) (known-kind l k)
 
--- ---- a row by its number among the rows of its type
+few-in : (kind : ℕ) → known kind ≡ true → length (rowsIn kind catalogue) ≤ rowLimit
+unfolding rowLimit rowsIn catalogue level switch number minus
+few-in = each-type (λ k. length (rowsIn k catalogue) ≤ rowLimit) (lit≤ tt) (lit≤ tt) (lit≤ tt) (lit≤ tt) (lit≤ tt) (lit≤ tt)
 
-at-any : (l : List Row) (n : ℕ) (d e : Row) → n < length l → getD l n d ≡ getD l n e
-at-any l n d e h =
-    let p = drop-cons l n d h in
-    let q = drop-cons l n e h in
+-- no module has more rows than the limit
+pub rows-few : (l : Layout) → knownLayout l ≡ true → length (rowsOf l) ≤ rowLimit
+unfolding rowsOf
+rows-few l k = few-in (l .kind) (known-kind l k)
+
+-- ---- a row by its number among the rows of its module
+
+at-any : (rs : List Row) (n : ℕ) (d e : Row) → n < length rs → getD rs n d ≡ getD rs n e
+at-any rs n d e h =
+    let p = drop-cons rs n d h in
+    let q = drop-cons rs n e h in
     cc
 
-pub rows-at : (kind n : ℕ) (d : Row) → n < length (rowsOf kind) → getD (rowsOf kind) n d ≡ rowOf kind n
+pub rows-at : (l : Layout) (n : ℕ) (d : Row) → n < length (rowsOf l) → getD (rowsOf l) n d ≡ rowOf l n
 unfolding rowOf
-rows-at kind n d h = at-any (rowsOf kind) n d noRow h
+rows-at l n d h = at-any (rowsOf l) n d noRow h
 
 -- the rows from a number on: that row, and those from the next on
-pub rows-from : (kind n : ℕ) → n < length (rowsOf kind) → drop n (rowsOf kind) ≡ rowOf kind n ∷ drop (n + 1) (rowsOf kind)
+pub rows-from : (l : Layout) (n : ℕ) → n < length (rowsOf l) → drop n (rowsOf l) ≡ rowOf l n ∷ drop (n + 1) (rowsOf l)
 unfolding rowOf
-rows-from kind n h = rw add-one (drop-cons (rowsOf kind) n noRow h)
+rows-from l n h = rw add-one (drop-cons (rowsOf l) n noRow h)
 
 -- it stands in the run of its type
-pub in-run : (kind n : ℕ) → known kind ≡ true → n < length (rowsOf kind) → rowOf kind n ≡ entryAt (firstRow kind + n) .row
+pub in-run : (l : Layout) (n : ℕ) → knownLayout l ≡ true → n < length (rowsOf l) → rowOf l n ≡ entryAt (firstRow (l .kind) + n) .row
 unfolding rowOf noRow entryAt
-in-run kind n k h =
-    ap (λ (l : List Row). getD l n (noEntry .row)) (run kind k)
-    ∙ List·getD-map (λ (e : Entry). e .row) (take (length (rowsOf kind)) (drop (firstRow kind) catalogue)) n noEntry
-    ∙ ap (λ (e : Entry). e .row) (getD-take (length (rowsOf kind)) (drop (firstRow kind) catalogue) n noEntry h ∙ getD-drop (firstRow kind) catalogue n noEntry)
+in-run l n k h =
+    ap (λ (rs : List Row). getD rs n (noEntry .row)) (run l k)
+    ∙ List·getD-map (λ (e : Entry). e .row) (take (length (rowsOf l)) (drop (firstRow (l .kind)) catalogue)) n noEntry
+    ∙ ap (λ (e : Entry). e .row) (getD-take (length (rowsOf l)) (drop (firstRow (l .kind)) catalogue) n noEntry h ∙ getD-drop (firstRow (l .kind)) catalogue n noEntry)
 
-pub run-within : (kind n first : ℕ) → known kind ≡ true → n < length (rowsOf kind) → first ≡ firstRow kind → first + n < length catalogue
-run-within kind n first k h e = omega (arith, run-ends kind k)
+module _ (l : Layout) (n first : ℕ) (k : knownLayout l ≡ true) (h : n < length (rowsOf l)) (e : first ≡ firstRow (l .kind)) where
+  pub run-within : first + n < length catalogue
+  run-within = omega (arith, run-ends l k)
 
-pub run-row : (kind n first : ℕ) (r : Row) → known kind ≡ true → n < length (rowsOf kind) → first ≡ firstRow kind → r ≡ entryAt (first + n) .row → r ≡ rowOf kind n
-run-row kind n first r k h e g = g ∙ rw e (sym (in-run kind n k h))
+  pub run-row : (r : Row) → r ≡ entryAt (first + n) .row → r ≡ rowOf l n
+  run-row r g = g ∙ rw e (sym (in-run l n k h))
 
-pub run-adds : (kind n first : ℕ) → known kind ≡ true → n < length (rowsOf kind) → first ≡ firstRow kind → Fits w64 (first + n)
-unfolding catalogue
-run-adds kind n first k h e = record { fits = omega (arith, run-within kind n first k h e) }
+  pub run-adds : Fits w64 (first + n)
+  unfolding catalogue
+  run-adds = record { fits = omega (arith, run-within) }
 
--- what is not behind a row of the type is within too, so that another row of it is refused for its fields
-pub run-before : (kind n m first : ℕ) → known kind ≡ true → n < length (rowsOf kind) → m ≤ n → first ≡ firstRow kind → first + m < length catalogue
-run-before kind n m first k h l e = omega (arith, run-ends kind k)
+  -- what is not behind a row of the module is within too, so that another row of it is refused for its fields
+  pub run-before : (m : ℕ) → m ≤ n → first + m < length catalogue
+  run-before m b = omega (arith, run-ends l k)
 
-pub run-adds-before : (kind n m first : ℕ) → known kind ≡ true → n < length (rowsOf kind) → m ≤ n → first ≡ firstRow kind → Fits w64 (first + m)
-unfolding catalogue
-run-adds-before kind n m first k h l e = record { fits = omega (arith, run-before kind n m first k h l e) }
+  pub run-adds-before : (m : ℕ) → m ≤ n → Fits w64 (first + m)
+  unfolding catalogue
+  run-adds-before m b = record { fits = omega (arith, run-before m b) }
 
-pub ruleset taking = (run-within, run-row, run-adds, run-before, run-adds-before, mod-le)
+pub ruleset taking = (known-kind, run-within, run-row, run-adds, run-before, run-adds-before, mod-le)

@@ -14,6 +14,7 @@ use Rattle.text.specs.Every.{every}
 use Rattle.catalogue.specs.Catalogue.{catalogue, level as level′, minus, noRow, number as number′, rowOf, rowsOf, switch as switch′}
 use Rattle.catalogue.specs.Catalogue.Each.{entryTest, type-tested}
 use Rattle.catalogue.specs.Row.{permitted}
+use Rattle.catalogue.specs.declared.layout.Layout.{Layout}
 use Rattle.catalogue.specs.declared.row.Indices.{Indices}
 use Rattle.catalogue.specs.declared.row.Indices.the-variants.{OneGroup, TwoGroups}
 use Rattle.catalogue.specs.declared.row.Kind.{Kind}
@@ -41,8 +42,8 @@ pub catalogue-sized : every (entryTest sizedRow) catalogue ≡ true
 unfolding every sizedRow sizedIndices sizedBounds catalogue level′ switch′ number′ minus
 catalogue-sized = refl
 
-pub type-sized : (owner : ℕ) → every sizedRow (rowsOf owner) ≡ true
-type-sized owner = type-tested sizedRow owner catalogue-sized
+pub type-sized : (l : Layout) → every sizedRow (rowsOf l) ≡ true
+type-sized l = type-tested sizedRow l catalogue-sized
 
 -- ---- the values that such a row permits
 
@@ -78,10 +79,10 @@ sized Number (pos low) (negsuc x) (pos high) b p q = never p
 sized Number (pos low) x (negsuc high) b p q = never b
 sized Number (negsuc low) x high b p q = never b
 
--- row j of a type
-pub row-sized : (kind j : ℕ) → j < length (rowsOf kind) → sizedRow (rowOf kind j) ≡ true
+-- row j of a module
+pub row-sized : (l : Layout) (j : ℕ) → j < length (rowsOf l) → sizedRow (rowOf l j) ≡ true
 unfolding rowOf
-row-sized kind j l = every-at sizedRow (rowsOf kind) noRow (type-sized kind) j l
+row-sized l j h = every-at sizedRow (rowsOf l) noRow (type-sized l) j h
 
 pub permitted-sized : (r : Row) (x : ℤ) → sizedRow r ≡ true → permitted r x ≡ true → Sized (r .kind) x
 unfolding sizedRow permitted

@@ -68,7 +68,7 @@ bearer-seated t line vs b s e sd vd = go s e
     one : (text : List ℕ) → b ≡ bearer t text → Seated vs b
     one text h =
         record {
-          known = λ m k. bearer-found t text m sd (sym h ∙ k) .kinds;
+          known = λ m k. bearer-found t text m sd (sym h ∙ k) .known;
           holds = λ s p k. named-held t text s vs p (rw h at k) sd vd;
         }
 

@@ -6,7 +6,7 @@ use Prim.Native.Nat.{ℕ, _+_, _-_, _<_}
 use native.Mathlib.Omega.{arith}
 use lib.IntN.{ℤ, pos}
 use lib.ListN.{length, getD, take, drop}
-use Rattle.catalogue.specs.Catalogue.{known}
+use Rattle.catalogue.specs.Catalogue.{knownLayout}
 use Rattle.catalogue.specs.Row.{permitted}
 use Rattle.catalogue.specs.Row.{RowFits}
 use Rattle.catalogue.specs.Row.Laws.{bits}
@@ -62,7 +62,7 @@ aim (aimed.Code n) = code n
 
 -- a module that bears a label has a known type
 abbrev pub KnownBearer : Bearer → Type 0
-KnownBearer b = (m : Module) → b ≡ Only m → known (m .kind) ≡ true
+KnownBearer b = (m : Module) → b ≡ Only m → knownLayout (m .layout) ≡ true
 
 module _ (b : Bearer) (s : List ℕ) where
   pub not-one : b ≡ NotOne → aim (aimed.Code 1) ≡ inRoom b (readIndices s)
@@ -70,7 +70,7 @@ module _ (b : Bearer) (s : List ℕ) where
   not-one h = rw h
 
   module _ (m : Module) (h : b ≡ Only m) where
-    pub bearer-known : KnownBearer b → known (m .kind) ≡ true
+    pub bearer-known : KnownBearer b → knownLayout (m .layout) ≡ true
     bearer-known k = k m h
 
     module _ (f : ParameterFound) (g : f ≡ indexed m (readIndices s)) where

@@ -37,12 +37,12 @@ bits-differ v x h = go (equal v x) refl
 
 -- the changes of the first j rows are `done`
 pub record RowWalk (m : Module) (vs ws : List ℤ) (j : ℕ) (done : List Change) : Type 0 where
-  pub many : length vs ≡ length (rowsOf (m .kind))
-  pub wanted : length ws ≡ length (rowsOf (m .kind))
+  pub many : length vs ≡ length (rowsOf (m .layout))
+  pub wanted : length ws ≡ length (rowsOf (m .layout))
   pub within : j ≤ length vs
   pub split : rowChanges m vs ws ≡ done ++ changesOf (drop j (parametersOf m)) (drop j vs) (drop j ws)
 
-pub rows-start : (m : Module) (vs ws : List ℤ) → length vs ≡ length (rowsOf (m .kind)) → length ws ≡ length (rowsOf (m .kind)) → RowWalk m vs ws 0 []
+pub rows-start : (m : Module) (vs ws : List ℤ) → length vs ≡ length (rowsOf (m .layout)) → length ws ≡ length (rowsOf (m .layout)) → RowWalk m vs ws 0 []
 unfolding rowChanges
 rows-start m vs ws e f = record { many = e; wanted = f; within = omega arith; split = refl }
 
@@ -51,7 +51,7 @@ abbrev pub changeOf : Module → (present wanted : List ℤ) → ℕ → Change
 changeOf m vs ws j = record { parameter = parameterOf m j; present = getD vs j (pos 0); target = getD ws j (pos 0) }
 
 module _ (m : Module) (vs ws : List ℤ) (j : ℕ) (done : List Change) (s : RowWalk m vs ws j done) (l : j < length vs) where
-  pub row-inside : j < length (rowsOf (m .kind))
+  pub row-inside : j < length (rowsOf (m .layout))
   row-inside = omega (arith, s .many)
 
   rest : List Change

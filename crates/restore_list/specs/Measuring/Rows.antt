@@ -10,7 +10,7 @@ use lib.ListN.{length, getD, length-append}
 use mir.Facts.{toZ-ofZ}
 use mir.Syntax.{w64}
 use mir.Val.{Fits, SFits, ofZ, toZ}
-use Rattle.catalogue.specs.Catalogue.{known, rowOf, rowsOf}
+use Rattle.catalogue.specs.Catalogue.{knownLayout, rowLimit, rowOf, rowsOf}
 use Rattle.catalogue.specs.Catalogue.Laws.{rows-few}
 use Rattle.catalogue.specs.Catalogue.Sized.{row-sized}
 use Rattle.catalogue.specs.declared.row.Row.{Row}
@@ -28,7 +28,7 @@ use Rattle.restore_list.specs.declared.module_measuring.Measured.the-var
 
 -- the changes of the first j rows can be set, and have so many bytes and lines
 pub record Rows (t : List ℕ) (m : Module) (vs ws : List ℤ) (bytes lines j : ℕ) : Type 0 where
-  pub kinds : known (m .kind) ≡ true
+  pub known : knownLayout (m .layout) ≡ true
   pub done : List Change
   pub walk : RowWalk m vs ws j done
   pub settable : allSettable done ≡ true
@@ -37,11 +37,11 @@ pub record Rows (t : List ℕ) (m : Module) (vs ws : List ℤ) (bytes lines j : 
   pub short : bytes ≤ 128 * j
   pub few : lines ≤ j
 
-pub rows-none : (t : List ℕ) (m : Module) (vs ws : List ℤ) → known (m .kind) ≡ true → length vs ≡ length (rowsOf (m .kind)) → length ws ≡ length (rowsOf (m .kind))
+pub rows-none : (t : List ℕ) (m : Module) (vs ws : List ℤ) → knownLayout (m .layout) ≡ true → length vs ≡ length (rowsOf (m .layout)) → length ws ≡ length (rowsOf (m .layout))
     → Rows t m vs ws 0 0 0
 rows-none t m vs ws k e f =
     record {
-      kinds = k;
+      known = k;
       done = [];
       walk = rows-start m vs ws e f;
       settable = settable-none;
@@ -55,7 +55,7 @@ wrong-first : (cs done rest : List Change) → cs ≡ done ++ rest → allSettab
 wrong-first cs done rest e h = rw (e, settable-append done rest, h) refl
 
 module _ (t : List ℕ) (m : Module) (vs ws : List ℤ) (bytes lines j : ℕ) (s : Rows t m vs ws bytes lines j) (l : j < length vs) where
-  pub row-exists : j < length (rowsOf (m .kind))
+  pub row-exists : j < length (rowsOf (m .layout))
   row-exists = row-inside m vs ws j (s .done) (s .walk) l
 
   pub row-wanted : j < length ws
@@ -65,7 +65,7 @@ module _ (t : List ℕ) (m : Module) (vs ws : List ℤ) (bytes lines j : ℕ) (s
       → Rows t m vs ws bytes lines (j + 1)
   row-equal f g e =
       record {
-        kinds = s .kinds;
+        known = s .known;
         done = s .done;
         walk = rows-equal m vs ws j (s .done) (s .walk) l (bits-equal (getD vs j (pos 0)) (getD ws j (pos 0)) f g e);
         settable = s .settable;
@@ -75,7 +75,7 @@ module _ (t : List ℕ) (m : Module) (vs ws : List ℤ) (bytes lines j : ℕ) (s
         few = omega (arith, s .few);
       }
 
-  module _ (d : ofZ w64 (getD vs j (pos 0)) ≡ ofZ w64 (getD ws j (pos 0)) → ⊥) (r : Row) (e : r ≡ rowOf (m .kind) j) where
+  module _ (d : ofZ w64 (getD vs j (pos 0)) ≡ ofZ w64 (getD ws j (pos 0)) → ⊥) (r : Row) (e : r ≡ rowOf (m .layout) j) where
     here : Change
     here = changeOf m vs ws j
 
@@ -105,14 +105,16 @@ module _ (t : List ℕ) (m : Module) (vs ws : List ℤ) (bytes lines j : ℕ) (s
 
       line-few : n ≤ 128
       line-few =
-          let h = say-short t (parameterOf m j) (getD vs j (pos 0)) (getD ws j (pos 0)) (row-sized (m .kind) j row-exists) g in
+          let h = say-short t (parameterOf m j) (getD vs j (pos 0)) (getD ws j (pos 0)) (row-sized (m .layout) j row-exists) g in
           omega (arith, line-is)
 
       pub row-bytes-fit : Fits w64 (bytes + n)
-      row-bytes-fit = record { fits = omega (arith, line-few, s .short, row-exists, rows-few (m .kind) (s .kinds)) }
+      unfolding rowLimit
+      row-bytes-fit = record { fits = omega (arith, line-few, s .short, row-exists, rows-few (m .layout) (s .known)) }
 
       pub row-lines-fit : Fits w64 (lines + 1)
-      row-lines-fit = record { fits = omega (arith, s .few, row-exists, rows-few (m .kind) (s .kinds)) }
+      unfolding rowLimit
+      row-lines-fit = record { fits = omega (arith, s .few, row-exists, rows-few (m .layout) (s .known)) }
 
       pub row-line : not (r .settable) ≡ false → Rows t m vs ws (bytes + n) (lines + 1) (j + 1)
       unfolding here
@@ -121,7 +123,7 @@ module _ (t : List ℕ) (m : Module) (vs ws : List ℤ) (bytes lines j : ℕ) (s
           rw (listing-append t (s .done) (here ∷ []), one-line t here, length-append (listing t (s .done)) (say t (parameterOf m j) (getD vs j (pos 0)) (getD ws j (pos 0)) ++ (0x0D ∷ [])))
           (omega (arith, s .bytes-are, line-is)) in
           record {
-            kinds = s .kinds;
+            known = s .known;
             done = s .done ++ here ∷ [];
             walk = differs;
             settable = with-here true (not-false (r .settable) h);
@@ -138,8 +140,8 @@ rows-measured t m vs ws bytes lines j s l =
     record {
       is = rw (rows-all m vs ws j (s .done) (s .walk) l, s .settable, s .bytes-are, s .lines-are) refl;
       few =
-          few-within bytes lines (omega (arith, s .short, s .walk .within, s .walk .many, rows-few (m .kind) (s .kinds)))
-          (omega (arith, s .few, s .walk .within, s .walk .many, rows-few (m .kind) (s .kinds)));
+          few-within bytes lines (omega (arith, s .short, s .walk .within, s .walk .many, rows-few (m .layout) (s .known)))
+          (omega (arith, s .few, s .walk .within, s .walk .many, rows-few (m .layout) (s .known)));
     }
 
 pub ruleset row-measuring = (rows-none, row-exists, row-wanted, row-equal, row-read-only, row-bytes-fit, row-lines-fit, row-line, rows-measured)

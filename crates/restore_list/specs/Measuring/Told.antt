@@ -2,11 +2,12 @@
 use mathlib.Core.Path.{_≡_, refl, ap, sym, _∙_}
 use mathlib.Core.Bool.{Bool, true, false}
 use mathlib.Core.List.{List}
-use Prim.Native.Nat.{ℕ, _≤_, _<_}
+use Prim.Native.Nat.{ℕ, _*_, _≤_, _<_}
 use native.Mathlib.Omega.{arith}
 use borrow.Author.Tests.{le-leb, leb-false, leb-true, lt-leb}
 use lib.Dec.{leb}
 use lib.ListN.{length}
+use Rattle.catalogue.specs.Catalogue.{rowLimit}
 use Rattle.wish.specs.Listing.{Change, allReachable, listNumber, listing}
 use Rattle.wish.specs.Listing.Numbers.{list-fits, list-long, list-unreachable}
 use Rattle.restore_list.specs.Measuring.{Few, Measures, measured, measuredIf, measuredNumber}
@@ -72,7 +73,7 @@ few-beyond =
       lines = λ b l e. absurd (let z : _≡_ {A = ℕ} 0 1 = cc in omega arith);
     }
 
-pub few-within : (bytes lines : ℕ) → bytes ≤ 4224 → lines ≤ 33 → Few (Within bytes lines)
+pub few-within : (bytes lines : ℕ) → bytes ≤ 128 * rowLimit → lines ≤ rowLimit → Few (Within bytes lines)
 few-within bytes lines h k =
     record {
       bytes = λ b l e. let q : bytes ≡ b = cc in omega arith;

@@ -10,6 +10,7 @@ use lib.Seq.{drop-drop}
 use Rattle.catalogue.specs.Catalogue.{rowsOf}
 use Rattle.room.specs.Table.{modules, sound}
 use Rattle.record.specs.Body.{bodyLength}
+use Rattle.record.specs.Layout.{layoutAt}
 use Rattle.room.specs.Table.Modules.{record-room}
 use Rattle.room.specs.Table.Walk.{walk-known, walk-numbered}
 use Rattle.values.specs.Parameters.{parameters, parametersOf}
@@ -49,7 +50,7 @@ walk-none w a =
     }
 
 module _ (w : Wish) (number place first : ℕ) (done : List Change) (s : ChangeWalk w number place first done) (l : place < length (w .table))
-    (rows : ℕ) (n : rows ≡ length (rowsOf (getD (w .table) place 0))) where
+    (rows : ℕ) (n : rows ≡ length (rowsOf (layoutAt (w .table) place))) where
   here : Module
   here = moduleHere (w .table) number place first
 
@@ -117,12 +118,12 @@ wishOf t vs selection ws = record { table = t; present = vs; selection = selecti
 pub standing : (t : List ℕ) (vs : List ℤ) (selection : List ℕ) (ws : List ℤ) (number place first : ℕ) (done : List Change)
     → ChangeWalk (wishOf t vs selection ws) number place first done → sound t ≡ true → place < length t → Standing t vs selection ws (moduleHere t number place first)
 standing t vs selection ws number place first done s e l =
-    let rows = length (rowsOf (getD t place 0)) in
+    let rows = length (rowsOf (layoutAt t place)) in
     let w = wishOf t vs selection ws in
     let walk = s .counted .walk in
     record {
       sounds = e;
-      kinds = walk-known t number place first walk l;
+      known = walk-known t number place first walk l;
       room = omega (arith, record-room t number place first walk l);
       byte = walk-selected w number place first done s l rows refl;
       values = walk-present w number place first done s l rows refl;

@@ -8,9 +8,11 @@ use lib.IntN.{ℤ}
 use lib.ListN.{length, getD, length-append}
 use mir.Syntax.{w64}
 use mir.Val.{Fits}
-use Rattle.catalogue.specs.Catalogue.{rowsOf}
+use Rattle.catalogue.specs.Catalogue.{rowLimit, rowsOf}
+use Rattle.catalogue.specs.declared.layout.Layout.{Layout}
 use Rattle.room.specs.Table.{sound}
 use Rattle.record.specs.Body.{bodyLength}
+use Rattle.record.specs.Layout.{layoutAt}
 use Rattle.room.specs.Table.Walk.{Walk, walk-few}
 use Rattle.values.specs.Parameters.Walk.{moduleHere}
 use Rattle.wish.specs.Listing.{Admitted, Change, allReachable, changes, listing}
@@ -30,8 +32,8 @@ pub record Sums (t : List ℕ) (vs : List ℤ) (selection : List ℕ) (ws : List
   pub reach : allReachable t done ≡ true
   pub bytes-are : bytes ≡ length (listing t done)
   pub lines-are : lines ≡ length done
-  pub short : bytes ≤ 4224 * number
-  pub few : lines ≤ 33 * number
+  pub short : bytes ≤ 128 * (rowLimit * number)
+  pub few : lines ≤ rowLimit * number
 
 pub sums-start : (t : List ℕ) (vs : List ℤ) (selection : List ℕ) (ws : List ℤ) → Admitted (wishOf t vs selection ws) → Sums t vs selection ws 0 0 0 0 0
 sums-start t vs selection ws a =
@@ -53,36 +55,42 @@ unfolding measured measuredIf
 beyond-first t cs done rest e h = rw (e, reachable-append t done rest, h) refl
 
 module _ (t : List ℕ) (vs : List ℤ) (selection : List ℕ) (ws : List ℤ) (number place first bytes lines : ℕ)
-    (s : Sums t vs selection ws number place first bytes lines) (l : place < length t) where
-  pub sums-standing : Standing t vs selection ws (moduleHere t number place first)
-  sums-standing = standing t vs selection ws number place first (s .done) (s .passed) (s .sounds) l
+    (s : Sums t vs selection ws number place first bytes lines) (l : place < length t) (x : Layout) (q : x ≡ layoutAt t place) where
+  pub sums-standing : Standing t vs selection ws (record { number = number; place = place; layout = x; first = first })
+  sums-standing = rw q (standing t vs selection ws number place first (s .done) (s .passed) (s .sounds) l)
 
   here : List Change
   here = moduleChanges selection (moduleHere t number place first) vs ws
 
-  module _ (f : Measured) (g : MeasuresModule t (moduleChanges selection (moduleHere t number place first) vs ws) f) where
+  module _ (f : Measured) (g : MeasuresModule t (moduleChanges selection (record { number = number; place = place; layout = x; first = first }) vs ws) f) where
+    is : f ≡ measured t here
+    unfolding here
+    is = rw q at (g .measures .is)
+
     pub sums-beyond : f ≡ Beyond → Measures t (changes (wishOf t vs selection ws)) Beyond
     unfolding here
     sums-beyond e =
-        let r : allReachable t here ≡ false = beyond-told t here (sym e ∙ g .measures .is) in
-        let w = walk-changes (wishOf t vs selection ws) number place first (s .done) (s .passed) l (length (rowsOf (getD t place 0))) refl (bodyLength (getD t place 0)) refl in
+        let r : allReachable t here ≡ false = beyond-told t here (sym e ∙ is) in
+        let w = walk-changes (wishOf t vs selection ws) number place first (s .done) (s .passed) l (length (rowsOf (layoutAt t place))) refl (bodyLength (getD t place 0)) refl in
         measures-by t (changes (wishOf t vs selection ws)) Beyond
         (beyond-first t (changes (wishOf t vs selection ws)) (s .done ++ here) _ (w .split) (reachable-append t (s .done) here ∙ rw (s .reach, r) refl))
 
     module _ (b c : ℕ) (e : f ≡ Within b c) where
       told : (allReachable t here ≡ true) × (b ≡ length (listing t here)) × (c ≡ length here)
       unfolding here
-      told = within-told t here b c (sym e ∙ g .measures .is)
+      told = within-told t here b c (sym e ∙ is)
 
       pub sums-bytes-fit : Fits w64 (bytes + b)
+      unfolding rowLimit
       sums-bytes-fit = record { fits = omega (arith, s .short, g .few .bytes b c e, walk-few t number place first (s .walk) l) }
 
       pub sums-lines-fit : Fits w64 (lines + c)
+      unfolding rowLimit
       sums-lines-fit = record { fits = omega (arith, s .few, g .few .lines b c e, walk-few t number place first (s .walk) l) }
 
-      pub sums-next : (size rows : ℕ) → size ≡ bodyLength (getD t place 0) → rows ≡ length (rowsOf (getD t place 0))
+      pub sums-next : (size rows : ℕ) → size ≡ bodyLength (getD t place 0) → rows ≡ length (rowsOf (layoutAt t place))
           → Sums t vs selection ws (number + 1) (place + 1 + size) (first + rows) (bytes + b) (lines + c)
-      unfolding here
+      unfolding here rowLimit
       sums-next size rows k n =
           let p = walk-changes (wishOf t vs selection ws) number place first (s .done) (s .passed) l rows n size k in
           let u = told in

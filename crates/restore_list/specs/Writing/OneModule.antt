@@ -19,7 +19,7 @@ module _ (t selection : List ℕ) (m : Module) (vs ws : List ℤ) (l : List ℕ)
   unfolding moduleChanges
   unchosen-wrote h = rw (ne-eqb (getD selection (m .number) 0) 1 h, listing-none t) (wrote-nothing l at)
 
-  module _ (k : getD selection (m .number) 0 ≡ 1) (rows : ℕ) (n : rows ≡ length (rowsOf (m .kind))) where
+  module _ (k : getD selection (m .number) 0 ≡ 1) (rows : ℕ) (n : rows ≡ length (rowsOf (m .layout))) where
     own-changes : moduleChanges selection m vs ws
         ≡ rowChanges m (take (m .first + rows - m .first) (drop (m .first) vs)) (take (m .first + rows - m .first) (drop (m .first) ws))
     unfolding moduleChanges

@@ -28,13 +28,13 @@ pub record RowsPut (t : List ℕ) (m : Module) (vs ws : List ℤ) (buffer : List
   pub wrote : Wrote buffer start (listing t done) at after
   pub long : length after ≡ length buffer
 
-pub put-none : (t : List ℕ) (m : Module) (vs ws : List ℤ) (buffer : List ℕ) (start : ℕ) → length vs ≡ length (rowsOf (m .kind)) → length ws ≡ length (rowsOf (m .kind))
+pub put-none : (t : List ℕ) (m : Module) (vs ws : List ℤ) (buffer : List ℕ) (start : ℕ) → length vs ≡ length (rowsOf (m .layout)) → length ws ≡ length (rowsOf (m .layout))
     → start + length (listing t (rowChanges m vs ws)) ≤ length buffer → RowsPut t m vs ws buffer start buffer start 0
 put-none t m vs ws buffer start e f h =
     record { done = []; walk = rows-start m vs ws e f; room = h; wrote = rw (listing-none t) (wrote-nothing buffer start); long = refl }
 
 module _ (t : List ℕ) (m : Module) (vs ws : List ℤ) (buffer : List ℕ) (start : ℕ) (after : List ℕ) (at j : ℕ) (s : RowsPut t m vs ws buffer start after at j) (l : j < length vs) where
-  pub put-exists : j < length (rowsOf (m .kind))
+  pub put-exists : j < length (rowsOf (m .layout))
   put-exists = row-inside m vs ws j (s .done) (s .walk) l
 
   pub put-wanted : j < length ws
@@ -52,7 +52,7 @@ module _ (t : List ℕ) (m : Module) (vs ws : List ℤ) (buffer : List ℕ) (sta
       }
 
   module _ (d : ofZ w64 (getD vs j (pos 0)) ≡ ofZ w64 (getD ws j (pos 0)) → ⊥) (f : SFits w64 (getD vs j (pos 0))) (g : SFits w64 (getD ws j (pos 0)))
-      (r : Row) (e : r ≡ rowOf (m .kind) j) where
+      (r : Row) (e : r ≡ rowOf (m .layout) j) where
     text : List ℕ
     text = say t (parameterOf m j) (getD vs j (pos 0)) (getD ws j (pos 0)) ++ (0x0D ∷ [])
 

@@ -7,10 +7,12 @@ use native.Mathlib.Omega.{arith}
 use lib.IntN.{ℤ}
 use lib.ListN.{length, getD, length-append}
 use Rattle.catalogue.specs.Catalogue.{rowsOf}
+use Rattle.catalogue.specs.declared.layout.Layout.{Layout}
 use Rattle.text.specs.Written.{Wrote}
 use Rattle.text.specs.Written.Laws.{wrote-join, wrote-length, wrote-nothing, past-by}
 use Rattle.room.specs.Table.{sound}
 use Rattle.record.specs.Body.{bodyLength}
+use Rattle.record.specs.Layout.{layoutAt}
 use Rattle.room.specs.Table.Walk.{Walk}
 use Rattle.values.specs.Parameters.Walk.{moduleHere}
 use Rattle.wish.specs.Listing.{Admitted, Change, changes, listing}
@@ -43,36 +45,37 @@ puts-start t vs selection ws buffer a h =
     }
 
 module _ (t : List ℕ) (vs : List ℤ) (selection : List ℕ) (ws : List ℤ) (buffer after : List ℕ) (number place first at : ℕ)
-    (s : Puts t vs selection ws buffer after number place first at) (l : place < length t) where
+    (s : Puts t vs selection ws buffer after number place first at) (l : place < length t) (x : Layout) (q : x ≡ layoutAt t place) where
   here : List Change
   here = moduleChanges selection (moduleHere t number place first) vs ws
 
-  pub puts-standing : Standing t vs selection ws (moduleHere t number place first)
-  puts-standing = standing t vs selection ws number place first (s .done) (s .passed) (s .sounds) l
+  pub puts-standing : Standing t vs selection ws (record { number = number; place = place; layout = x; first = first })
+  puts-standing = rw q (standing t vs selection ws number place first (s .done) (s .passed) (s .sounds) l)
 
-  pub puts-room : at + length (listing t (moduleChanges selection (moduleHere t number place first) vs ws)) ≤ length after
+  pub puts-room : at + length (listing t (moduleChanges selection (record { number = number; place = place; layout = x; first = first }) vs ws)) ≤ length after
   unfolding here
   puts-room =
-      let w = walk-changes (wishOf t vs selection ws) number place first (s .done) (s .passed) l (length (rowsOf (getD t place 0))) refl (bodyLength (getD t place 0)) refl in
+      let w = walk-changes (wishOf t vs selection ws) number place first (s .done) (s .passed) l (length (rowsOf (layoutAt t place))) refl (bodyLength (getD t place 0)) refl in
       let h = first-fits t (changes (wishOf t vs selection ws)) (s .done ++ here) _ 0 (length buffer) (w .split) (omega (arith, s .room)) in
       let k : length (listing t (s .done ++ here)) ≡ length (listing t (s .done)) + length (listing t here) =
       rw (listing-append t (s .done) here) (length-append (listing t (s .done)) (listing t here)) in
-      omega (arith, h, k, past-by (s .wrote), s .long)
+      rw q (omega (arith, h, k, past-by (s .wrote), s .long))
 
-  pub puts-next : (r : ℕ) (new : List ℕ) (size rows : ℕ) → Wrote after at (listing t (moduleChanges selection (moduleHere t number place first) vs ws)) r new
-      → size ≡ bodyLength (getD t place 0) → rows ≡ length (rowsOf (getD t place 0))
+  pub puts-next : (r : ℕ) (new : List ℕ) (size rows : ℕ) → Wrote after at (listing t (moduleChanges selection (record { number = number; place = place; layout = x; first = first }) vs ws)) r new
+      → size ≡ bodyLength (getD t place 0) → rows ≡ length (rowsOf (layoutAt t place))
       → Puts t vs selection ws buffer new (number + 1) (place + 1 + size) (first + rows) r
   unfolding here
   puts-next r new size rows w e n =
       let p = walk-changes (wishOf t vs selection ws) number place first (s .done) (s .passed) l rows n size e in
+      let own : Wrote after at (listing t here) r new = rw q at w in
       record {
         walk = p .counted .walk;
         sounds = s .sounds;
         done = s .done ++ here;
         passed = p;
         room = s .room;
-        wrote = rw (listing-append t (s .done) here) (wrote-join (s .wrote) w);
-        long = wrote-length w ∙ s .long;
+        wrote = rw (listing-append t (s .done) here) (wrote-join (s .wrote) own);
+        long = wrote-length own ∙ s .long;
       }
 
 module _ (t : List ℕ) (vs : List ℤ) (selection : List ℕ) (ws : List ℤ) (buffer after : List ℕ) (number place first at : ℕ)

@@ -5,7 +5,7 @@ use mathlib.Core.List.{List, [], _∷_}
 use Prim.Native.Nat.{ℕ, zero, suc, _+_, _≤_}
 use native.Mathlib.Omega.{arith}
 use lib.ListN.{length}
-use Rattle.catalogue.specs.Catalogue.{known}
+use Rattle.catalogue.specs.Catalogue.{knownLayout}
 use Rattle.room.specs.Table.{moduleAt, modules, sound}
 use Rattle.record.specs.Field.{labelRight}
 use Rattle.room.specs.Table.Modules.{ModuleIn, at-first, at-others, module-in, module-known, module-room, no-module, record-label, the-first}
@@ -94,7 +94,7 @@ pub record Found (t text : List ℕ) (m : Module) : Type 0 where
   pub found : moduleAt (modules t) (m .number) ≡ At m
   pub labelled : label t m ≡ text
   pub right : labelRight text ≡ true
-  pub kinds : known (m .kind) ≡ true
+  pub known : knownLayout (m .layout) ≡ true
   pub room : m .place + 33 ≤ length t
 
 -- every module's label is a right one
@@ -112,7 +112,7 @@ bearer-found t text m s e =
       found = ap (moduleAt (modules t)) (i .numbered) ∙ b .found;
       labelled = b .labelled;
       right = rw (b .labelled) at (module-label t (b .n) m i);
-      kinds = module-known t (b .n) m i;
+      known = module-known t (b .n) m i;
       room = module-room t (b .n) m i;
     }
 

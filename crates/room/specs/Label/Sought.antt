@@ -9,8 +9,10 @@ use lib.Dec.{eqb}
 use lib.ListN.{length, getD, take, drop, drop-of-length-le, length-take}
 use Rattle.text.specs.Cut.{before}
 use Rattle.catalogue.specs.Catalogue.{rowsOf}
+use Rattle.catalogue.specs.declared.layout.Layout.{Layout}
 use Rattle.room.specs.Table.{sound}
 use Rattle.record.specs.Body.{bodyLength}
+use Rattle.record.specs.Layout.{layoutAt}
 use Rattle.record.specs.Field.{labelRight}
 use Rattle.room.specs.Table.Modules.{record-label, record-room}
 use Rattle.room.specs.Table.Walk.{Walk, modulesAt, modules-end, modules-next, modules-start, walk-induction, walk-next, walk-start}
@@ -85,9 +87,9 @@ pub ended-zero : (t : List ℕ) (label i : ℕ) → not (eqb (getD t (label + i)
 ended-zero t label i e = record { zero-byte = λ s. eqb-true (getD t (label + i) 0) 0 (not-false _ e) }
 
 module _ (t text : List ℕ) (found : Bearer) (number place first size rows : ℕ) (h : Sought t text found number place first) (l : place < length t)
-    (s : size ≡ bodyLength (getD t place 0)) (n : rows ≡ length (rowsOf (getD t place 0))) where
+    (s : size ≡ bodyLength (getD t place 0)) (n : rows ≡ length (rowsOf (layoutAt t place))) where
   abbrev here : Module
-  here = record { number = number; place = place; kind = getD t place 0; first = first }
+  here = record { number = number; place = place; layout = layoutAt t place; first = first }
 
   sought-pass : (before 0 (take 32 (drop (place + 1) t)) ≡ text → ⊥) → Sought t text found (number + 1) (place + 1 + size) (first + rows)
   unfolding label
@@ -115,22 +117,26 @@ module _ (t text : List ℕ) (found : Bearer) (number place first size rows : �
       let e : label t here ≡ text = matches t text (place + 1) i c b (h .right) (z .zero-byte) in
       h .rest ∙ rw (modules-next t number place first (h .walk) l size rows s n, bears t text here _ e)
 
-  pub sought-first : (i : ℕ) → Compared t text (place + 1) i → i ≤ 0 → Ended t (place + 1) (length text) → found ≡ NotOne
-      → Sought t text (Only (record { number = number; place = place; kind = getD t place 0; first = first }))
+  pub sought-first : (i : ℕ) (m : Layout) → m ≡ layoutAt t place → Compared t text (place + 1) i → i ≤ 0 → Ended t (place + 1) (length text) → found ≡ NotOne
+      → Sought t text (Only (record { number = number; place = place; layout = m; first = first }))
       (number + 1) (place + 1 + size) (first + rows)
   unfolding counting
-  sought-first i c b z f =
+  sought-first i m q c b z f =
       record {
         walk = walk-next t number place first (h .walk) l size rows s n;
         right = h .right;
         short = h .short;
-        rest = rw f at (matched i c b z);
+        rest = rw q (rw f at (matched i c b z));
       }
 
-  pub sought-second : (i : ℕ) (m : Module) → Compared t text (place + 1) i → i ≤ 0 → Ended t (place + 1) (length text) → found ≡ Only m
-      → NotOne ≡ bearer t text
+  second : (i : ℕ) (m : Module) → Compared t text (place + 1) i → i ≤ 0 → Ended t (place + 1) (length text) → found ≡ Only m → NotOne ≡ bearer t text
   unfolding counting exactlyOne
-  sought-second i m c b z f = sym (rw f at (matched i c b z))
+  second i m c b z f = sym (rw f at (matched i c b z))
+
+pub sought-second : (t text : List ℕ) (found : Bearer) (number place first i : ℕ) (m : Module) → Sought t text found number place first → place < length t
+    → Compared t text (place + 1) i → i ≤ 0 → Ended t (place + 1) (length text) → found ≡ Only m → NotOne ≡ bearer t text
+sought-second t text found number place first i m h l =
+    second t text found number place first (bodyLength (getD t place 0)) (length (rowsOf (layoutAt t place))) h l refl refl i m
 
 -- ---- a text that is no label
 
@@ -139,7 +145,7 @@ unfolding bearersIn
 nobody t text = refl
 
 unlike : (t text : List ℕ) (number place first : ℕ) → Walk t number place first → place < length t → labelRight text ≡ false
-    → label t (record { number = number; place = place; kind = getD t place 0; first = first }) ≡ text → ⊥
+    → label t (record { number = number; place = place; layout = layoutAt t place; first = first }) ≡ text → ⊥
 unfolding label
 unlike t text number place first w l e q =
     let r : labelRight text ≡ true = rw q at (record-label t number place first w l) in
@@ -154,10 +160,10 @@ no-bearer t text e = walk-induction t (λ number place first. bearersIn t text (
     last number place first l = rw (modules-end t number place first l) (nobody t text)
 
     more : (number place first : ℕ) → Walk t number place first → place < length t
-        → bearersIn t text (modulesAt t (number + 1) (place + 1 + bodyLength (getD t place 0)) (first + length (rowsOf (getD t place 0)))) ≡ []
+        → bearersIn t text (modulesAt t (number + 1) (place + 1 + bodyLength (getD t place 0)) (first + length (rowsOf (layoutAt t place)))) ≡ []
         → bearersIn t text (modulesAt t number place first) ≡ []
     more number place first w l next =
-        rw (modules-next t number place first w l (bodyLength (getD t place 0)) (length (rowsOf (getD t place 0))) refl refl)
+        rw (modules-next t number place first w l (bodyLength (getD t place 0)) (length (rowsOf (layoutAt t place))) refl refl)
         (bears-not t text _ _ (unlike t text number place first w l e) ∙ next)
 
 pub sought-none : (t text : List ℕ) (r : Bool) → sound t ≡ true → r ≡ labelRight text → not r ≡ true → NotOne ≡ bearer t text

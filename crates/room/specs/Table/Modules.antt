@@ -5,26 +5,29 @@ use mathlib.Core.List.{List, [], _∷_}
 use Prim.Native.Nat.{ℕ, zero, suc, _+_, _≤_, _<_}
 use native.Mathlib.Omega.{arith}
 use lib.ListN.{length, getD, take, drop}
+use lib.Seq.{take-take}
 use Rattle.text.specs.Cut.{before}
-use Rattle.catalogue.specs.Catalogue.{known, rowsOf}
+use Rattle.catalogue.specs.Catalogue.{knownLayout, rowsOf}
 use Rattle.room.specs.Table.{moduleAt, modules, modulesFrom, recordLimit, sound}
 use Rattle.record.specs.Body.{bodyLength}
 use Rattle.record.specs.Body.Laws.{body-long, sound-body}
+use Rattle.record.specs.Layout.{layoutAt, layoutOf}
 use Rattle.record.specs.Field.{labelRight}
-use Rattle.room.specs.Table.Walk.{Walk, modulesAt, modules-end, modules-next, modules-start, walk-body, walk-induction, walk-known, walk-room, walk-start}
+use Rattle.room.specs.Table.Walk.{Walk, modulesAt, modules-end, modules-next, modules-start, record-inside, walk-body, walk-induction, walk-known, walk-start}
 use Rattle.room.specs.declared.table.Module.{Module}
 use Rattle.room.specs.declared.table.ModuleFound.the-variants.{At, Nothing}
 
 -- ---- the record at a place
 
 pub record-room : (t : List ℕ) (number place first : ℕ) → Walk t number place first → place < length t → place + 1 + 32 ≤ length t
-record-room t number place first w l = walk-room t number place first w l 32 (sym (body-long (getD t place 0)))
+record-room t number place first w l = omega (arith, record-inside t number place first w l, body-long (getD t place 0))
 
 pub record-label : (t : List ℕ) (number place first : ℕ) → Walk t number place first → place < length t
     → labelRight (before 0 (take 32 (drop (place + 1) t))) ≡ true
 record-label t number place first w l =
-    let b = walk-body t number place first w l 32 (sym (body-long (getD t place 0))) in
-    sound-body (getD t place 0) (take 32 (drop (place + 1) t)) b .label
+    let size = bodyLength (getD t place 0) in
+    let b = walk-body t number place first w l size refl in
+    rw (take-take 32 size (drop (place + 1) t) (body-long (getD t place 0))) at (sound-body (getD t place 0) (take size (drop (place + 1) t)) b .label)
 
 -- ---- a module of the table
 
@@ -33,7 +36,7 @@ pub record ModuleIn (t : List ℕ) (n : ℕ) (m : Module) : Type 0 where
   pub numbered : m .number ≡ n
   pub walk : Walk t (m .number) (m .place) (m .first)
   pub inside : m .place < length t
-  pub kinds : m .kind ≡ getD t (m .place) 0
+  pub laid : m .layout ≡ layoutAt t (m .place)
 
 -- ---- the module with a number
 
@@ -59,14 +62,15 @@ the-first a m ms e = let c : At a ≡ At m = sym (at-first a ms) ∙ e in cc
 
 -- what holds of no module, and of one before others whose values follow its own, holds of the modules of every table
 module _ (P : (first : ℕ) → List Module → Type 0) (none : (first : ℕ) → P first [])
-    (more : (m : Module) (ms : List Module) → P (m .first + length (rowsOf (m .kind))) ms → P (m .first) (m ∷ ms)) where
+    (more : (m : Module) (ms : List Module) → P (m .first + length (rowsOf (m .layout))) ms → P (m .first) (m ∷ ms)) where
   from-record : (left number place first : ℕ) (t : List ℕ) → P first (modulesFrom left number place first t)
   unfolding modulesFrom
   from-record zero number place first t = none first
   from-record (suc left) number place first [] = none first
   from-record (suc left) number place first (kind ∷ t) =
-      more (record { number = number; place = place; kind = kind; first = first }) _
-      (from-record left (number + 1) (place + 1 + bodyLength kind) (first + length (rowsOf kind)) (drop (bodyLength kind) t))
+      let layout = layoutOf kind (take (bodyLength kind) t) in
+      more (record { number = number; place = place; layout = layout; first = first }) _
+      (from-record left (number + 1) (place + 1 + bodyLength kind) (first + length (rowsOf layout)) (drop (bodyLength kind) t))
 
   pub modules-induction : (t : List ℕ) → P 0 (modules t)
   unfolding modules
@@ -85,17 +89,17 @@ numbered-all t = walk-induction t (Numbered t) last more
         absurd (let z : _≡_ {A = ℕ} 0 1 = cc in omega arith)
 
     more : (number place first : ℕ) → Walk t number place first → place < length t
-        → Numbered t (number + 1) (place + 1 + bodyLength (getD t place 0)) (first + length (rowsOf (getD t place 0))) → Numbered t number place first
+        → Numbered t (number + 1) (place + 1 + bodyLength (getD t place 0)) (first + length (rowsOf (layoutAt t place))) → Numbered t number place first
     more number place first w l next zero m e =
-        let here : Module = record { number = number; place = place; kind = getD t place 0; first = first } in
-        let c = modules-next t number place first w l (bodyLength (getD t place 0)) (length (rowsOf (getD t place 0))) refl refl in
+        let here : Module = record { number = number; place = place; layout = layoutAt t place; first = first } in
+        let c = modules-next t number place first w l (bodyLength (getD t place 0)) (length (rowsOf (layoutAt t place))) refl refl in
         let f : At here ≡ At m = sym (at-first here _) ∙ (rw c at e) in
         let q : here ≡ m = cc in
         let n : number ≡ number + 0 = omega arith in
-        subst (λ (x : Module). ModuleIn t (number + 0) x) q (record { numbered = n; walk = w; inside = l; kinds = refl })
+        subst (λ (x : Module). ModuleIn t (number + 0) x) q (record { numbered = n; walk = w; inside = l; laid = refl })
     more number place first w l next (suc k) m e =
-        let here : Module = record { number = number; place = place; kind = getD t place 0; first = first } in
-        let c = modules-next t number place first w l (bodyLength (getD t place 0)) (length (rowsOf (getD t place 0))) refl refl in
+        let here : Module = record { number = number; place = place; layout = layoutAt t place; first = first } in
+        let c = modules-next t number place first w l (bodyLength (getD t place 0)) (length (rowsOf (layoutAt t place))) refl refl in
         let n : number + 1 + k ≡ number + suc k = omega arith in
         rw n at (next k m (sym (at-others here _ k) ∙ (rw c at e)))
 
@@ -105,8 +109,8 @@ module-in t e n m h =
     let z : 0 + n ≡ n = omega arith in
     rw z at (numbered-all t 0 0 0 (walk-start t e) n m (rw (modules-start t) at h))
 
-pub module-known : (t : List ℕ) (n : ℕ) (m : Module) → ModuleIn t n m → known (m .kind) ≡ true
-module-known t n m h = rw (h .kinds) (walk-known t (m .number) (m .place) (m .first) (h .walk) (h .inside))
+pub module-known : (t : List ℕ) (n : ℕ) (m : Module) → ModuleIn t n m → knownLayout (m .layout) ≡ true
+module-known t n m h = rw (h .laid) (walk-known t (m .number) (m .place) (m .first) (h .walk) (h .inside))
 
 pub module-room : (t : List ℕ) (n : ℕ) (m : Module) → ModuleIn t n m → m .place + 33 ≤ length t
 module-room t n m h = omega (arith, record-room t (m .number) (m .place) (m .first) (h .walk) (h .inside))

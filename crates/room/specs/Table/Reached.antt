@@ -6,8 +6,10 @@ use Prim.Native.Nat.{ℕ, suc, _+_, _-_, _≤_, _<_}
 use native.Mathlib.Omega.{arith}
 use lib.ListN.{length, getD}
 use Rattle.catalogue.specs.Catalogue.{rowsOf}
+use Rattle.catalogue.specs.declared.layout.Layout.{Layout}
 use Rattle.room.specs.Table.{moduleAt, modules, sound}
 use Rattle.record.specs.Body.{bodyLength}
+use Rattle.record.specs.Layout.{layoutAt}
 use Rattle.room.specs.Table.Modules.{at-first, at-none, at-others}
 use Rattle.room.specs.Table.Walk.{Walk, modulesAt, modules-end, modules-next, modules-start, walk-next, walk-start}
 use Rattle.room.specs.declared.table.ModuleFound.the-variants.{At, Nothing}
@@ -24,14 +26,14 @@ reached-start t n e =
     record { walk = walk-start t e; ahead = omega arith; rest = rw (modules-start t, z) }
 
 module _ (t : List ℕ) (n k place first : ℕ) (h : Reached t n k place first) (l : place < length t) where
-  pub reached-here : k ≡ n → At (record { number = n; place = place; kind = getD t place 0; first = first }) ≡ moduleAt (modules t) n
-  reached-here e =
+  pub reached-here : (m : Layout) → m ≡ layoutAt t place → k ≡ n → At (record { number = n; place = place; layout = m; first = first }) ≡ moduleAt (modules t) n
+  reached-here m q e =
       let z : n - k ≡ 0 = omega arith in
       sym
       (h .rest ∙
-      rw (modules-next t k place first (h .walk) l (bodyLength (getD t place 0)) (length (rowsOf (getD t place 0))) refl refl, z, at-first, e))
+      rw (modules-next t k place first (h .walk) l (bodyLength (getD t place 0)) (length (rowsOf (layoutAt t place))) refl refl, z, at-first, e, q))
 
-  pub reached-next : (size rows : ℕ) → (k ≡ n → ⊥) → size ≡ bodyLength (getD t place 0) → rows ≡ length (rowsOf (getD t place 0))
+  pub reached-next : (size rows : ℕ) → (k ≡ n → ⊥) → size ≡ bodyLength (getD t place 0) → rows ≡ length (rowsOf (layoutAt t place))
       → Reached t n (k + 1) (place + 1 + size) (first + rows)
   reached-next size rows d s r =
       let z : n - k ≡ suc (n - (k + 1)) = omega arith in

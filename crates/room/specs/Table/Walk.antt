@@ -11,12 +11,15 @@ use mir.Val.{Fits}
 use lib.Dec.{ltb}
 use lib.ListN.{length, getD, take, drop, length-take, length-drop, drop-of-length-le}
 use lib.Seq.{drop-cons, drop-drop}
-use Rattle.catalogue.specs.Catalogue.{known, rowsOf}
+use Rattle.catalogue.specs.Catalogue.{knownLayout, rowLimit, rowsOf}
+use Rattle.catalogue.specs.declared.layout.Layout.{Layout}
 use Rattle.text.specs.Every.Laws.{both-left, both-right}
 use Rattle.catalogue.specs.Catalogue.Laws.{rows-few}
 use Rattle.room.specs.Table.{modules, modulesFrom, recordLimit, recordsSound, sound}
 use Rattle.record.specs.Body.{bodyLength, bodySound}
 use Rattle.record.specs.Body.Laws.{sound-body}
+use Rattle.record.specs.Layout.{layoutAt, layoutOf}
+use Rattle.record.specs.Layout.Laws.{layout-body, layout-here, layout-known}
 use Rattle.room.specs.declared.table.Module.{Module}
 
 -- the modules from the record at a place on
@@ -27,7 +30,7 @@ modulesAt t number place first = modulesFrom (64 - number) number place first (d
 pub record Walk (t : List ℕ) (number place first : ℕ) : Type 0 where
   pub within : place ≤ length t
   pub few : number ≤ 64
-  pub small : first ≤ 33 * number
+  pub small : first ≤ rowLimit * number
   pub rest : recordsSound (64 - number) (drop place t) ≡ true
   pub total : length (modules t) ≡ number + length (modulesAt t number place first)
 
@@ -46,7 +49,7 @@ walk-start t e = record { within = omega arith; few = omega arith; small = omega
 
 -- the first of some records
 record First (left kind : ℕ) (t : List ℕ) : Type 0 where
-  kinds : known kind ≡ true
+  known : knownLayout (layoutOf kind (take (bodyLength kind) t)) ≡ true
   room : bodyLength kind ≤ length t
   body : bodySound kind (take (bodyLength kind) t) ≡ true
   others : recordsSound left (drop (bodyLength kind) t) ≡ true
@@ -58,7 +61,7 @@ first-record left kind t e =
     let b = both-left (bodySound kind (take size t)) (recordsSound left (drop size t)) e in
     let s = sound-body kind (take size t) b in
     record {
-      kinds = s .kinds;
+      known = layout-known kind (take size t) b;
       room = omega (arith, s .long, length-take size t);
       body = b;
       others = both-right (bodySound kind (take size t)) (recordsSound left (drop size t)) e;
@@ -81,35 +84,43 @@ module _ (t : List ℕ) (number place first : ℕ) (w : Walk t number place firs
       let n : 64 - number ≡ suc (64 - (number + 1)) = omega arith in
       first-record (64 - (number + 1)) (getD t place 0) (drop (place + 1) t) (rw (drop-cons t place 0, ← add-one place, n) at (w .rest))
 
-  pub walk-known : known (getD t place 0) ≡ true
-  walk-known = at-record .kinds
+  pub walk-known : knownLayout (layoutAt t place) ≡ true
+  walk-known = rw (layout-here t place) (at-record .known)
+
+  -- also of the layout that code has read
+  pub layout-walked : (l : Layout) → l ≡ layoutAt t place → knownLayout l ≡ true
+  layout-walked l e = rw e walk-known
 
   pub walk-room : (size : ℕ) → size ≡ bodyLength (getD t place 0) → place + 1 + size ≤ length t
   walk-room size e = omega (arith, at-record .room, length-drop (place + 1) t)
 
+  pub record-inside : place + 1 + bodyLength (getD t place 0) ≤ length t
+  record-inside = walk-room (bodyLength (getD t place 0)) refl
+
   pub walk-body : (size : ℕ) → size ≡ bodyLength (getD t place 0) → bodySound (getD t place 0) (take size (drop (place + 1) t)) ≡ true
   walk-body size e = rw e (at-record .body)
 
-  pub modules-next : (size rows : ℕ) → size ≡ bodyLength (getD t place 0) → rows ≡ length (rowsOf (getD t place 0))
+  pub modules-next : (size rows : ℕ) → size ≡ bodyLength (getD t place 0) → rows ≡ length (rowsOf (layoutAt t place))
       → modulesAt t number place first ≡
-      record { number = number; place = place; kind = getD t place 0; first = first } ∷
+      record { number = number; place = place; layout = layoutAt t place; first = first } ∷
       modulesAt t (number + 1) (place + 1 + size) (first + rows)
   unfolding modulesAt modulesFrom
   modules-next size rows e n =
       let f = walk-few in
       let m : 64 - number ≡ suc (64 - (number + 1)) = omega arith in
-      rw (drop-cons t place 0, m, add-one place, drop-drop, e, n)
+      rw (drop-cons t place 0, m, n, layout-here t place, add-one place, drop-drop, e)
 
   pub walk-numbered : number < length (modules t)
-  walk-numbered = omega (arith, w .total, ap length (modules-next (bodyLength (getD t place 0)) (length (rowsOf (getD t place 0))) refl refl))
+  walk-numbered = omega (arith, w .total, ap length (modules-next (bodyLength (getD t place 0)) (length (rowsOf (layoutAt t place))) refl refl))
 
-  pub walk-next : (size rows : ℕ) → size ≡ bodyLength (getD t place 0) → rows ≡ length (rowsOf (getD t place 0))
+  pub walk-next : (size rows : ℕ) → size ≡ bodyLength (getD t place 0) → rows ≡ length (rowsOf (layoutAt t place))
       → Walk t (number + 1) (place + 1 + size) (first + rows)
+  unfolding rowLimit
   walk-next size rows e n =
       record {
         within = walk-room size e;
         few = omega (arith, walk-few);
-        small = omega (arith, rows-few (getD t place 0) walk-known);
+        small = omega (arith, rows-few (layoutAt t place) walk-known);
         rest = rw (← e, drop-drop) at (at-record .others);
         total = omega (arith, w .total, ap length (modules-next size rows e n));
       }
@@ -118,8 +129,9 @@ module _ (t : List ℕ) (number place first : ℕ) (w : Walk t number place firs
   pub place-fits : (size : ℕ) → size ≡ bodyLength (getD t place 0) → length t < 18446744073709551616 → Fits w64 (place + 1 + size)
   place-fits size e b = record { fits = omega (arith, walk-room size e) }
 
-  pub first-fits : (rows : ℕ) → rows ≡ length (rowsOf (getD t place 0)) → Fits w64 (first + rows)
-  first-fits rows n = record { fits = omega (arith, rows-few (getD t place 0) walk-known, walk-few) }
+  pub first-fits : (rows : ℕ) → rows ≡ length (rowsOf (layoutAt t place)) → Fits w64 (first + rows)
+  unfolding rowLimit
+  first-fits rows n = record { fits = omega (arith, rows-few (layoutAt t place) walk-known, walk-few) }
 
 pub modules-end : (t : List ℕ) (number place first : ℕ) → length t ≤ place → modulesAt t number place first ≡ []
 unfolding modulesAt
@@ -132,7 +144,7 @@ walk-counted t number place first w l = omega (arith, w .total, ap length (modul
 module _ (t : List ℕ) (P : (number place first : ℕ) → Type 0)
     (last : (number place first : ℕ) → length t ≤ place → P number place first)
     (more : (number place first : ℕ) → Walk t number place first → place < length t
-    → P (number + 1) (place + 1 + bodyLength (getD t place 0)) (first + length (rowsOf (getD t place 0))) → P number place first) where
+    → P (number + 1) (place + 1 + bodyLength (getD t place 0)) (first + length (rowsOf (layoutAt t place))) → P number place first) where
   by-turns : (left number place first : ℕ) → Walk t number place first → 64 ≤ number + left → P number place first
   by-turns zero number place first w h = last number place first (past (ltb place (length t)) refl)
     where
@@ -140,11 +152,11 @@ module _ (t : List ℕ) (P : (number place first : ℕ) → Type 0)
       past true e = omega (arith, walk-few t number place first w (ltb-true place (length t) e))
       past false e = ltb-false place (length t) e
   by-turns (suc left) number place first w h =
-      turn (λ l. by-turns left (number + 1) (place + 1 + bodyLength (getD t place 0)) (first + length (rowsOf (getD t place 0)))
-      (walk-next t number place first w l (bodyLength (getD t place 0)) (length (rowsOf (getD t place 0))) refl refl) (omega arith))
+      turn (λ l. by-turns left (number + 1) (place + 1 + bodyLength (getD t place 0)) (first + length (rowsOf (layoutAt t place)))
+      (walk-next t number place first w l (bodyLength (getD t place 0)) (length (rowsOf (layoutAt t place))) refl refl) (omega arith))
       (ltb place (length t)) refl
     where
-      turn : (place < length t → P (number + 1) (place + 1 + bodyLength (getD t place 0)) (first + length (rowsOf (getD t place 0))))
+      turn : (place < length t → P (number + 1) (place + 1 + bodyLength (getD t place 0)) (first + length (rowsOf (layoutAt t place))))
           → (b : Bool) → ltb place (length t) ≡ b → P number place first
       turn next true e = more number place first w (ltb-true place (length t) e) (next (ltb-true place (length t) e))
       turn next false e = last number place first (ltb-false place (length t) e)
@@ -152,4 +164,8 @@ module _ (t : List ℕ) (P : (number place first : ℕ) → Type 0)
   pub walk-induction : (number place first : ℕ) → Walk t number place first → P number place first
   walk-induction number place first w = by-turns 64 number place first w (omega arith)
 
-pub ruleset walking = (walk-start, walk-known, walk-room, walk-next, place-fits, first-fits)
+-- the rows that code has counted by the layout that it has read
+pub layout-rows : (t : List ℕ) (place rows : ℕ) (l : Layout) → l ≡ layoutAt t place → rows ≡ length (rowsOf l) → rows ≡ length (rowsOf (layoutAt t place))
+layout-rows t place rows l e n = rw e at n
+
+pub ruleset walking = (walk-start, layout-walked, record-inside, layout-body, layout-rows, walk-room, walk-next, place-fits, first-fits)

@@ -20,7 +20,7 @@ are-sound-spec =
     Inv-loop
     μ-loop
     (λ c. search (fitting, walking, needs))  -- loop-holds
-    (λ c. search (fitting, walking, needs))  -- shared-slice-read-kind
+    (λ c κs. search (fitting, walking, needs))  -- layout-at-requires
     (λ c κs. search (fitting, walking, needs))  -- row-count-requires
     (λ c. search (fitting, walking, needs))  -- sub-if1
     (λ c. search (fitting, walking, needs))  -- returns

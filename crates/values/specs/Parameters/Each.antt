@@ -18,7 +18,7 @@ use Rattle.values.specs.declared.parameter.ParameterFound.the-variants.{
 pub every-parameter : (test : Row → Bool) → every (entryTest test) catalogue ≡ true → (t : List ℕ) (k : ℕ) (p : Parameter) → parameterAt (parameters t) k ≡ At p → test (p .row) ≡ true
 unfolding parametersOf
 every-parameter test h t k p e =
-    row-at test (p .owner) 0 (rowsOf (p .owner .kind)) (p .number) p (type-tested test (p .owner .kind) h) (at-place t k p e .own)
+    row-at test (p .owner) 0 (rowsOf (p .owner .layout)) (p .number) p (type-tested test (p .owner .layout) h) (at-place t k p e .own)
 
 -- the arithmetic of every parameter's row stays within 64 bits
 pub parameter-fits : (t : List ℕ) (k : ℕ) (p : Parameter) → parameterAt (parameters t) k ≡ At p → RowFits (p .row)

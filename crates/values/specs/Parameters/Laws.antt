@@ -17,16 +17,16 @@ use Rattle.values.specs.declared.parameter.ParameterFound.the-variants.{
 
 -- parameter j of a module
 abbrev pub parameterOf : Module → ℕ → Parameter
-parameterOf m j = record { owner = m; number = j; row = rowOf (m .kind) j }
+parameterOf m j = record { owner = m; number = j; row = rowOf (m .layout) j }
 
 length-numbered : (m : Module) (n : ℕ) (rs : List Row) → length (numbered m n rs) ≡ length rs
 unfolding numbered
 length-numbered m n [] = refl
 length-numbered m n (r ∷ rs) = ap suc (length-numbered m (n + 1) rs)
 
-pub length-parametersOf : (m : Module) → length (parametersOf m) ≡ length (rowsOf (m .kind))
+pub length-parametersOf : (m : Module) → length (parametersOf m) ≡ length (rowsOf (m .layout))
 unfolding parametersOf
-length-parametersOf m = length-numbered m 0 (rowsOf (m .kind))
+length-parametersOf m = length-numbered m 0 (rowsOf (m .layout))
 
 numbered-at : (m : Module) (n : ℕ) (rs : List Row) (d : Parameter) (j : ℕ) → j < length rs → getD (numbered m n rs) j d ≡ record { owner = m; number = n + j; row = getD rs j (d .row) }
 unfolding numbered
@@ -36,11 +36,11 @@ numbered-at m n (r ∷ rs) d (suc j) h =
     let e : n + 1 + j ≡ n + suc j = omega arith in
     numbered-at m (n + 1) rs d j (le-of-suc-le-suc h) ∙ rw e
 
-pub parametersOf-at : (m : Module) (d : Parameter) (j : ℕ) → j < length (rowsOf (m .kind)) → getD (parametersOf m) j d ≡ parameterOf m j
+pub parametersOf-at : (m : Module) (d : Parameter) (j : ℕ) → j < length (rowsOf (m .layout)) → getD (parametersOf m) j d ≡ parameterOf m j
 unfolding parametersOf
-parametersOf-at m d j h = numbered-at m 0 (rowsOf (m .kind)) d j h ∙ rw (zero-add, rows-at (m .kind) j (d .row) h)
+parametersOf-at m d j h = numbered-at m 0 (rowsOf (m .layout)) d j h ∙ rw (zero-add, rows-at (m .layout) j (d .row) h)
 
-pub parametersOf-cons : (m : Module) (j : ℕ) → j < length (rowsOf (m .kind)) → drop j (parametersOf m) ≡ parameterOf m j ∷ drop (j + 1) (parametersOf m)
+pub parametersOf-cons : (m : Module) (j : ℕ) → j < length (rowsOf (m .layout)) → drop j (parametersOf m) ≡ parameterOf m j ∷ drop (j + 1) (parametersOf m)
 parametersOf-cons m j h =
     let l : j < length (parametersOf m) = omega (arith, length-parametersOf m) in
     drop-cons (parametersOf m) j (parameterOf m j) l ∙ rw (add-one, parametersOf-at m (parameterOf m j) j h)

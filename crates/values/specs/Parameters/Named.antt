@@ -50,8 +50,8 @@ pub record NamedBy (m : Module) (i : Indices) (p : Parameter) : Type 0 where
 pub named-told : (m : Module) (i : Indices) (p : Parameter) → named m i ≡ At p → NamedBy m i p
 unfolding named parametersOf
 named-told m i p e =
-    let f = with-indices-told m 0 (rowsOf (m .kind)) i p e in
-    let h = at-numbered m 0 (rowsOf (m .kind)) (f .at) p (f .found) in
+    let f = with-indices-told m 0 (rowsOf (m .layout)) i p e in
+    let h = at-numbered m 0 (rowsOf (m .layout)) (f .at) p (f .found) in
     let n : p .number ≡ f .at = h .number ∙ zero-add (f .at) in
     record { owner = h .owner; own = ap (parameterAt (parametersOf m)) n ∙ f .found; indices = f .indices }
 
@@ -80,8 +80,8 @@ with-indices-back m n (r ∷ rs) (suc j) p h e =
 
 pub named-back : (m : Module) (j : ℕ) (p : Parameter) → parameterAt (parametersOf m) j ≡ At p → named m (p .row .indices) ≡ At p
 unfolding named parametersOf
-named-back m j p e = with-indices-back m 0 (rowsOf (m .kind)) j p (type-distinct (m .kind)) e
+named-back m j p e = with-indices-back m 0 (rowsOf (m .layout)) j p (type-distinct (m .layout)) e
 
 pub row-sized : (m : Module) (j : ℕ) (p : Parameter) → parameterAt (parametersOf m) j ≡ At p → sizedRow (p .row) ≡ true
 unfolding parametersOf
-row-sized m j p e = row-at sizedRow m 0 (rowsOf (m .kind)) j p (type-sized (m .kind)) e
+row-sized m j p e = row-at sizedRow m 0 (rowsOf (m .layout)) j p (type-sized (m .layout)) e

@@ -20,4 +20,4 @@ numbered-owned m n (r ∷ rs) = (refl, numbered-owned m (n + 1) rs)
 
 pub owned : (m : Module) → Owned m (parametersOf m)
 unfolding parametersOf
-owned m = numbered-owned m 0 (rowsOf (m .kind))
+owned m = numbered-owned m 0 (rowsOf (m .layout))

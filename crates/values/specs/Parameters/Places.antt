@@ -64,7 +64,7 @@ at-numbered m n (r ∷ rs) (suc j) p e =
 
 pub at-own : (m : Module) (j : ℕ) (p : Parameter) → parameterAt (parametersOf m) j ≡ At p → Numbered m j p
 unfolding parametersOf
-at-own m j p e = rw (zero-add j) at (at-numbered m 0 (rowsOf (m .kind)) j p e)
+at-own m j p e = rw (zero-add j) at (at-numbered m 0 (rowsOf (m .layout)) j p e)
 
 -- ---- the parameters of a table
 
@@ -94,14 +94,14 @@ placed-none : (first : ℕ) → AllPlaced first []
 unfolding parametersIn parameterAt
 placed-none first k p e = never-found p e
 
-placed-more : (m : Module) (ms : List Module) → AllPlaced (m .first + length (rowsOf (m .kind))) ms → AllPlaced (m .first) (m ∷ ms)
+placed-more : (m : Module) (ms : List Module) → AllPlaced (m .first + length (rowsOf (m .layout))) ms → AllPlaced (m .first) (m ∷ ms)
 unfolding parametersIn
 placed-more m ms below k p e = go (at-side (parametersOf m) (parametersIn ms) k p e)
   where
     go : Side (parametersOf m) (parametersIn ms) k p → Placed (m ∷ ms) (m .first + k) p
     go (earlier h) = placed-first m ms k p h
     go (later j n h) =
-        let e : m .first + length (rowsOf (m .kind)) + j ≡ m .first + k = omega (arith, length-parametersOf m) in
+        let e : m .first + length (rowsOf (m .layout)) + j ≡ m .first + k = omega (arith, length-parametersOf m) in
         placed-later m ms (m .first + k) p (rw e at (below j p h))
 
 pub at-place : (t : List ℕ) (k : ℕ) (p : Parameter) → parameterAt (parameters t) k ≡ At p → Placed (modules t) k p
@@ -122,7 +122,7 @@ begins-first one m ps e =
       theirs = λ j p f. rw (zero-add j) (at-left (parametersOf one) ps j p (ap (λ n. parameterAt (parametersOf n) j) e ∙ f));
     }
 
-begins-later : (one m : Module) (ps : List Parameter) → Begins m (one .first + length (rowsOf (one .kind))) ps
+begins-later : (one m : Module) (ps : List Parameter) → Begins m (one .first + length (rowsOf (one .layout))) ps
     → Begins m (one .first) (parametersOf one ++ ps)
 begins-later one m ps b =
     record {
@@ -139,7 +139,7 @@ AllBegin first ms = (n : ℕ) (m : Module) → moduleAt ms n ≡ table.At m → 
 begin-none : (first : ℕ) → AllBegin first []
 begin-none first n m e = no-module n m e
 
-begin-more : (one : Module) (ms : List Module) → AllBegin (one .first + length (rowsOf (one .kind))) ms → AllBegin (one .first) (one ∷ ms)
+begin-more : (one : Module) (ms : List Module) → AllBegin (one .first + length (rowsOf (one .layout))) ms → AllBegin (one .first) (one ∷ ms)
 unfolding parametersIn
 begin-more one ms below zero m e = begins-first one m (parametersIn ms) (the-first one m ms e)
 begin-more one ms below (suc n) m e = begins-later one m (parametersIn ms) (below n m (sym (at-others one ms n) ∙ e))

@@ -17,11 +17,11 @@ use Rattle.values.specs.declared.parameter.ParameterFound.the-variants.{
 
 -- the rows passed have other indices
 pub record Seeking (m : Module) (i : Indices) (count j : ℕ) : Type 0 where
-  pub counts : count ≡ length (rowsOf (m .kind))
+  pub counts : count ≡ length (rowsOf (m .layout))
   pub within : j ≤ count
   pub rest : named m i ≡ withIndices i (drop j (parametersOf m))
 
-pub seek-start : (m : Module) (i : Indices) (count : ℕ) → count ≡ length (rowsOf (m .kind)) → Seeking m i count 0
+pub seek-start : (m : Module) (i : Indices) (count : ℕ) → count ≡ length (rowsOf (m .layout)) → Seeking m i count 0
 unfolding named
 seek-start m i count e = record { counts = e; within = omega arith; rest = refl }
 
@@ -29,10 +29,10 @@ head : (i : Indices) (p : Parameter) (ps : List Parameter) (t : Bool) → sameIn
 unfolding withIndices
 head i p ps t e = rw e
 
-module _ (m : Module) (i : Indices) (count j : ℕ) (s : Seeking m i count j) (l : j < count) (r : Row) (e : r ≡ rowOf (m .kind) j) (t : Bool) (f : t ≡ sameIndices (r .indices) i) where
+module _ (m : Module) (i : Indices) (count j : ℕ) (s : Seeking m i count j) (l : j < count) (r : Row) (e : r ≡ rowOf (m .layout) j) (t : Bool) (f : t ≡ sameIndices (r .indices) i) where
   at-row : named m i ≡ cond t (At (parameterOf m j)) (withIndices i (drop (j + 1) (parametersOf m)))
   at-row =
-      let k : j < length (rowsOf (m .kind)) = omega (arith, s .counts) in
+      let k : j < length (rowsOf (m .layout)) = omega (arith, s .counts) in
       s .rest ∙ rw (parametersOf-cons m j k) (head i (parameterOf m j) (drop (j + 1) (parametersOf m)) t (rw e at (sym f)))
 
   pub seek-next : t ≡ false → Seeking m i count (j + 1)
@@ -50,7 +50,7 @@ seek-none m i count j s l =
     let past : length (parametersOf m) ≤ j = omega (arith, s .counts, length-parametersOf m) in
     sym (s .rest ∙ rw (drop-of-length-le (parametersOf m) past) (nothing-left i))
 
-pub row-inside : (m : Module) (i : Indices) (count j : ℕ) → Seeking m i count j → j < count → j < length (rowsOf (m .kind))
+pub row-inside : (m : Module) (i : Indices) (count j : ℕ) → Seeking m i count j → j < count → j < length (rowsOf (m .layout))
 row-inside m i count j s l = omega (arith, s .counts)
 
 pub ruleset seeking = (seek-start, seek-next, seek-found, seek-none, row-inside)

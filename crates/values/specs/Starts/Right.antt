@@ -1,4 +1,4 @@
--- The start values are right for their table: at most 2,112, one for each parameter, and each permitted for its row. So is a list that they were put into.
+-- The start values are right for their table: no more than a table may have, one for each parameter, and each permitted for its row. So is a list that they were put into.
 use mathlib.Core.Path.{_≡_, refl, sym, ap}
 use mathlib.Core.Bool.{true}
 use mathlib.Core.List.{List, [], _∷_}
@@ -12,14 +12,14 @@ use Rattle.catalogue.specs.Catalogue.Starts.{catalogue-starts, startRight}
 use Rattle.values.specs.Parameters.{parameterAt, parameters}
 use Rattle.values.specs.Parameters.Each.{every-parameter}
 use Rattle.room.specs.Table.{sound}
-use Rattle.values.specs.Values.{eachPermitted, valuesSound}
+use Rattle.values.specs.Values.{eachPermitted, valueLimit, valuesSound}
 use Rattle.values.specs.Values.Few.{parameters-few}
 use Rattle.values.specs.Starts.{Started, starts, startsOf}
 use Rattle.values.specs.Starts.Filling.{length-starts}
 use Rattle.values.specs.declared.parameter.Parameter.{Parameter}
 use Rattle.values.specs.declared.parameter.ParameterFound.the-variants.{At}
 
-pub starts-few : (t : List ℕ) → sound t ≡ true → length (starts t) ≤ 2112
+pub starts-few : (t : List ℕ) → sound t ≡ true → length (starts t) ≤ valueLimit
 starts-few t h = omega (arith, length-starts t, parameters-few t h)
 
 -- ---- that each is permitted
@@ -38,7 +38,7 @@ starts-right t =
 -- ---- a list that they were put into
 
 -- there is room for every start value
-pub starts-room : (t : List ℕ) (l : List ℤ) → sound t ≡ true → 2112 ≡ length l → length (starts t) ≤ length l
+pub starts-room : (t : List ℕ) (l : List ℤ) → sound t ≡ true → valueLimit ≡ length l → length (starts t) ≤ length l
 starts-room t l s e = omega (arith, starts-few t s)
 
 module _ (t : List ℕ) (before : List ℤ) (n : ℕ) (after : List ℤ) (s : Started t before n after) where

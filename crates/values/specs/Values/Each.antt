@@ -13,6 +13,7 @@ use lib.Seq.{drop-drop}
 use Rattle.catalogue.specs.Catalogue.{rowsOf}
 use Rattle.room.specs.Table.{sound}
 use Rattle.record.specs.Body.{bodyLength}
+use Rattle.record.specs.Layout.{layoutAt}
 use Rattle.values.specs.Parameters.{parameters, parametersOf}
 use Rattle.values.specs.Parameters.Walk.{Counted, counted-all, counted-next, counted-start, module-count, moduleHere, parametersAt, parameters-end, parameters-next, parameters-start}
 use Rattle.values.specs.declared.parameter.Parameter.{Parameter}
@@ -45,7 +46,7 @@ module _ (f : List Parameter → List ℤ → Bool) where
       rw (s .one p (ps ++ qs) v vs, s .one p ps v (take (length ps) vs), append s ps qs vs (le-of-suc-le-suc h))
       (sym (and-assoc (test p v) (f ps (take (length ps) vs)) (f qs (drop (length ps) vs))))
 
-  module _ (t : List ℕ) (vs : List ℤ) (number place first : ℕ) (s : Each f t vs number place first) (l : place < length t) (rows : ℕ) (n : rows ≡ length (rowsOf (getD t place 0))) where
+  module _ (t : List ℕ) (vs : List ℤ) (number place first : ℕ) (s : Each f t vs number place first) (l : place < length t) (rows : ℕ) (n : rows ≡ length (rowsOf (layoutAt t place))) where
     pub each-short : length vs - first < rows → false ≡ allPass f t vs
     each-short h =
         let c = counted-next t number place first (s .counted) l (bodyLength (getD t place 0)) rows refl n in

@@ -14,10 +14,12 @@ use Rattle.values.specs.Parameters.{numbered, parametersOf}
 use Rattle.values.specs.Parameters.Walk.{moduleHere}
 use Rattle.catalogue.specs.Row.{permitted}
 use Rattle.record.specs.Body.{bodyLength}
+use Rattle.record.specs.Layout.{layoutAt}
 use Rattle.values.specs.Values.{eachPermitted, valuesSound}
 use Rattle.values.specs.Permit.{rowsPermit}
 use Rattle.values.specs.Values.Each.{Each, each-all, each-next, each-short, each-start, each-wrong}
 use Rattle.values.specs.Values.Laws.{each-tests}
+use Rattle.catalogue.specs.declared.layout.Layout.{Layout}
 use Rattle.catalogue.specs.declared.row.Row.{Row}
 use Rattle.room.specs.declared.table.Module.{Module}
 
@@ -29,25 +31,26 @@ numbered-permit m n [] vs = refl
 numbered-permit m n (r ∷ rs) [] = refl
 numbered-permit m n (r ∷ rs) (v ∷ vs) = ap (λ (b : Bool). permitted r v && b) (numbered-permit m (n + 1) rs vs)
 
-pub module-permit : (m : Module) (vs : List ℤ) → eachPermitted (parametersOf m) vs ≡ rowsPermit (rowsOf (m .kind)) vs
+pub module-permit : (m : Module) (vs : List ℤ) → eachPermitted (parametersOf m) vs ≡ rowsPermit (rowsOf (m .layout)) vs
 unfolding parametersOf
-module-permit m vs = numbered-permit m 0 (rowsOf (m .kind)) vs
+module-permit m vs = numbered-permit m 0 (rowsOf (m .layout)) vs
 
 -- ---- the walk: the values of the records passed are permitted
 
 abbrev pub Fitting : (t : List ℕ) (vs : List ℤ) (number place first : ℕ) → Type 0
 Fitting t vs number place first = Each eachPermitted t vs number place first
 
-module _ (t : List ℕ) (vs : List ℤ) (number place first : ℕ) (s : Fitting t vs number place first) (l : place < length t) (rows : ℕ) (n : rows ≡ length (rowsOf (getD t place 0))) where
+module _ (t : List ℕ) (vs : List ℤ) (number place first : ℕ) (s : Fitting t vs number place first) (l : place < length t) (rows : ℕ) (n : rows ≡ length (rowsOf (layoutAt t place))) where
   pub fitting-short : length vs - first < rows → false ≡ valuesSound t vs
   unfolding valuesSound
   fitting-short h = each-short eachPermitted t vs number place first s l rows n h
 
-  module _ (room : rows ≤ length vs - first) (b : Bool) (f : b ≡ rowsPermit (rowsOf (getD t place 0)) (take (first + rows - first) (drop first vs))) where
+  module _ (room : rows ≤ length vs - first) (b : Bool) (x : Layout) (q : x ≡ layoutAt t place)
+      (f : b ≡ rowsPermit (rowsOf x) (take (first + rows - first) (drop first vs))) where
     here : eachPermitted (parametersOf (moduleHere t number place first)) (take rows (drop first vs)) ≡ b
     here =
         let d : first + rows - first ≡ rows = omega arith in
-        module-permit (moduleHere t number place first) (take rows (drop first vs)) ∙ sym (rw d at f)
+        module-permit (moduleHere t number place first) (take rows (drop first vs)) ∙ sym (rw (d, q) at f)
 
     pub fitting-wrong : b ≡ false → false ≡ valuesSound t vs
     unfolding valuesSound

@@ -20,7 +20,7 @@ wanted-right-spec =
     Inv-loop
     μ-loop
     (λ c. search (wanting, walking, needs))  -- loop-holds
-    (λ c. search (wanting, walking, needs))  -- shared-slice-read-kind
+    (λ c κs. search (wanting, walking, needs))  -- layout-at-requires
     (λ c κs. search (wanting, walking, needs))  -- row-count-requires
     (λ c. search (wanting, walking, needs))  -- sub-if1
     (λ c. search (wanting, walking, needs))  -- returns
@@ -37,5 +37,5 @@ wanted-right-spec =
     (λ c κs. search (wanting, walking, needs))  -- body-length-requires
     (λ c. search (wanting, walking, needs))  -- add-place-2
     (λ c. search (wanting, walking, needs))  -- loop-less
-    (λ c. search (wanting-on, needs))  -- loop-again
+    (λ c. search (wanting-on, walking, needs))  -- loop-again
     (λ c. search (wanting, walking, needs)))  -- returns-3

@@ -9,9 +9,11 @@ use lib.Dec.{eqb}
 use lib.IntN.{ℤ}
 use lib.ListN.{length, getD, take, drop, length-drop, length-take}
 use Rattle.catalogue.specs.Catalogue.{rowsOf}
+use Rattle.catalogue.specs.declared.layout.Layout.{Layout}
 use Rattle.catalogue.specs.Row.{permitted}
 use Rattle.room.specs.Table.{modules, sound}
 use Rattle.record.specs.Body.{bodyLength}
+use Rattle.record.specs.Layout.{layoutAt}
 use Rattle.room.specs.Table.Walk.{walk-numbered}
 use Rattle.values.specs.Parameters.{parameters, parametersOf}
 use Rattle.values.specs.Parameters.Laws.{length-parametersOf}
@@ -39,15 +41,15 @@ chosen-tests selection = record { none = λ ws. refl; one = λ p ps w ws. refl }
 untested : Tests (λ ps ws. true) (λ p w. true)
 untested = record { none = λ ws. refl; one = λ p ps w ws. refl }
 
-module-right : (selection : List ℕ) (m : Module) (ws : List ℤ) → length (rowsOf (m .kind)) ≤ length ws
-    → chosenPermitted selection (parametersOf m) ws ≡ (not (eqb (getD selection (m .number) 0) 1) || rowsPermit (rowsOf (m .kind)) ws)
+module-right : (selection : List ℕ) (m : Module) (ws : List ℤ) → length (rowsOf (m .layout)) ≤ length ws
+    → chosenPermitted selection (parametersOf m) ws ≡ (not (eqb (getD selection (m .number) 0) 1) || rowsPermit (rowsOf (m .layout)) ws)
 module-right selection m ws l = go (eqb (getD selection (m .number) 0) 1) refl
   where
     long : length (parametersOf m) ≤ length ws
     long = omega (arith, length-parametersOf m)
 
     go : (b : Bool) → eqb (getD selection (m .number) 0) 1 ≡ b
-        → chosenPermitted selection (parametersOf m) ws ≡ (not b || rowsPermit (rowsOf (m .kind)) ws)
+        → chosenPermitted selection (parametersOf m) ws ≡ (not b || rowsPermit (rowsOf (m .layout)) ws)
     go true e =
         tested-alike (chosen-tests selection) each-tests m (λ p w o. rw (own-choice selection m p o, e)) (parametersOf m) ws (owned m) long
         ∙ module-permit m ws
@@ -87,19 +89,19 @@ module _ (t selection : List ℕ) (ws : List ℤ) (number place first : ℕ) (s 
   pub wanting-byte : number < length selection
   wanting-byte = omega (arith, s .bytes, walk-numbered t number place first (s .each .counted .walk) l)
 
-  module _ (rows : ℕ) (n : rows ≡ length (rowsOf (getD t place 0))) where
+  module _ (rows : ℕ) (n : rows ≡ length (rowsOf (layoutAt t place))) where
     pub wanting-short : length ws - first < rows → false ≡ wantedRight t selection ws
     unfolding wantedRight
     wanting-short h = each-short (chosenPermitted selection) t ws number place first (s .each) l rows n h
 
-    module _ (room : rows ≤ length ws - first) (b : Bool)
-        (f : b ≡ (not (eqb (getD selection number 0) 1) || rowsPermit (rowsOf (getD t place 0)) (take (first + rows - first) (drop first ws)))) where
+    module _ (room : rows ≤ length ws - first) (b : Bool) (x : Layout) (q : x ≡ layoutAt t place)
+        (f : b ≡ (not (eqb (getD selection number 0) 1) || rowsPermit (rowsOf x) (take (first + rows - first) (drop first ws)))) where
       here : chosenPermitted selection (parametersOf (moduleHere t number place first)) (take rows (drop first ws)) ≡ b
       here =
           let d : first + rows - first ≡ rows = omega arith in
-          let long : length (rowsOf (getD t place 0)) ≤ length (take rows (drop first ws)) =
+          let long : length (rowsOf (layoutAt t place)) ≤ length (take rows (drop first ws)) =
           omega (arith, length-take rows (drop first ws), length-drop first ws) in
-          module-right selection (moduleHere t number place first) (take rows (drop first ws)) long ∙ sym (rw d at f)
+          module-right selection (moduleHere t number place first) (take rows (drop first ws)) long ∙ sym (rw (d, q) at f)
 
       pub wanting-wrong : b ≡ false → false ≡ wantedRight t selection ws
       unfolding wantedRight
@@ -110,12 +112,12 @@ module _ (t selection : List ℕ) (ws : List ℤ) (number place first : ℕ) (s 
           record { each = each-next (chosenPermitted selection) t ws number place first (s .each) l rows n (chosen-tests selection) room b here size e h; bytes = s .bytes }
 
 -- the next record, where the test of this one did not fail
-pub wanting-on : (t selection : List ℕ) (ws : List ℤ) (number place first rows size : ℕ) (b : Bool) → Wanting t selection ws number place first → place < length t
-    → not b ≡ false → size ≡ bodyLength (getD t place 0) → rows ≡ length (rowsOf (getD t place 0)) → rows ≤ length ws - first
-    → b ≡ (not (eqb (getD selection number 0) 1) || rowsPermit (rowsOf (getD t place 0)) (take (first + rows - first) (drop first ws)))
+pub wanting-on : (t selection : List ℕ) (ws : List ℤ) (number place first rows size : ℕ) (b : Bool) (x : Layout) → Wanting t selection ws number place first → place < length t
+    → not b ≡ false → size ≡ bodyLength (getD t place 0) → rows ≡ length (rowsOf (layoutAt t place)) → rows ≤ length ws - first → x ≡ layoutAt t place
+    → b ≡ (not (eqb (getD selection number 0) 1) || rowsPermit (rowsOf x) (take (first + rows - first) (drop first ws)))
     → Wanting t selection ws (number + 1) (place + 1 + size) (first + rows)
-wanting-on t selection ws number place first rows size b s l h e n room f =
-    wanting-next t selection ws number place first s l rows n room b f size e (not-false b h)
+wanting-on t selection ws number place first rows size b x s l h e n room q f =
+    wanting-next t selection ws number place first s l rows n room b x q f size e (not-false b h)
 
 pub wanting-all : (t selection : List ℕ) (ws : List ℤ) (number place first : ℕ) → Wanting t selection ws number place first → length t ≤ place
     → eqb first (length ws) ≡ wantedRight t selection ws

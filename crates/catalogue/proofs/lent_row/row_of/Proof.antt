@@ -6,4 +6,4 @@ use Rattle.catalogue.proofs.lent_row.row_of.Tie as tie
 
 pub row-of-spec : {M : Type 1} → statement M
 row-of-spec =
-    tie.close (tie.spec (λ c κs. search needs) (λ c. search (taking, needs)) (λ c κs. search (taking, needs)) (λ c. search (taking, needs)))
+    tie.close (tie.spec (λ c κs. search (taking, needs)) (λ c. search (taking, needs)) (λ c κs. search (taking, needs)) (λ c. search (taking, needs)))

@@ -1,4 +1,4 @@
--- `body_sound`: the kind, the body's length, and the field.
+-- `body_sound`: the kind, the body's length, and the field at its beginning.
 use borrow.Author.Needs.{needs}
 use Rattle.record.specs.Body.Rules.{bodies}
 use Rattle.record.proofs.body.body_sound.Statement.{statement}
@@ -11,6 +11,7 @@ body-sound-spec =
     (λ c κs. search (bodies, needs))
     (λ c. search (bodies, needs))
     (λ c κs. search (bodies, needs))
+    (λ c. search (bodies, needs))
     (λ c. search (bodies, needs))
     (λ c κs. search (bodies, needs))
     (λ c. search (bodies, needs)))

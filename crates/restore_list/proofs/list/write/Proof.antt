@@ -21,7 +21,7 @@ write-spec =
     Inv-loop
     μ-loop
     (λ c. search (putting, walking, needs))  -- loop-holds
-    (λ c. search (putting, walking, needs))  -- shared-slice-read-kind
+    (λ c κs. search (putting, walking, needs))  -- layout-at-requires
     (λ c κs. search (putting, walking, needs))  -- write-module-requires
     (λ c. search (putting, walking, needs))  -- add-number
     (λ c. search (putting, walking, needs))  -- add-place

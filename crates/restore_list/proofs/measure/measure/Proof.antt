@@ -21,7 +21,7 @@ measure-spec =
     Inv-loop
     μ-loop
     (λ c. search (summing, walking, needs))  -- loop-holds
-    (λ c. search (summing, walking, needs))  -- shared-slice-read-kind
+    (λ c κs. search (summing, walking, needs))  -- layout-at-requires
     (λ c κs. search (summing, walking, needs))  -- measure-module-requires
     (λ c. search (summing, walking, needs))  -- enum-told
     (λ c. search (summing, walking, needs))  -- returns

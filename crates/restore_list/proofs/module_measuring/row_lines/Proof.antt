@@ -7,10 +7,10 @@ use Rattle.restore_list.proofs.module_measuring.row_lines.Statement.{st
 use Rattle.restore_list.proofs.module_measuring.row_lines.Tie as tie
 
 abbrev Inv-loop : tie.InvT-loop
-Inv-loop table rows m size present wanted kind bytes₀ lines₀ j₀ bytes lines j = Rows table m present wanted bytes lines j
+Inv-loop table rows m size present wanted layout bytes₀ lines₀ j₀ bytes lines j = Rows table m present wanted bytes lines j
 
 abbrev μ-loop : tie.MeasureT-loop
-μ-loop table rows m size present wanted kind bytes₀ lines₀ j₀ bytes lines j = length present - j
+μ-loop table rows m size present wanted layout bytes₀ lines₀ j₀ bytes lines j = length present - j
 
 pub row-lines-spec : {M : Type 1} → statement M
 row-lines-spec =

@@ -7,10 +7,10 @@ use Rattle.restore_list.proofs.module_writing.write_rows.Statement.{sta
 use Rattle.restore_list.proofs.module_writing.write_rows.Tie as tie
 
 abbrev Inv-loop : tie.InvT-loop
-Inv-loop table rows m size present wanted list₀ start kind at₀ j₀ list at j = RowsPut table m present wanted list₀ start list at j
+Inv-loop table rows m size present wanted list₀ start layout at₀ j₀ list at j = RowsPut table m present wanted list₀ start list at j
 
 abbrev μ-loop : tie.MeasureT-loop
-μ-loop table rows m size present wanted list₀ start kind at₀ j₀ list at j = length present - j
+μ-loop table rows m size present wanted list₀ start layout at₀ j₀ list at j = length present - j
 
 pub write-rows-spec : {M : Type 1} → statement M
 write-rows-spec =

@@ -10,10 +10,10 @@ use Rattle.room.proofs.label.find_bearer.Statement.{statement}
 use Rattle.room.proofs.label.find_bearer.Tie as tie
 
 abbrev Inv-loop : tie.InvT-loop
-Inv-loop table text found number place first kind here label i₀ i = Compared table text label i
+Inv-loop table text found number place first here label i₀ i = Compared table text label i
 
 abbrev μ-loop : tie.MeasureT-loop
-μ-loop table text found number place first kind here label i₀ i = i
+μ-loop table text found number place first here label i₀ i = i
 
 abbrev Inv-records : tie.InvT-records
 Inv-records table text found₀ number₀ place₀ first₀ found number place first = Sought table text found number place first
@@ -32,7 +32,7 @@ find-bearer-spec =
     (λ c κs. search (seeking, walking, needs))
     (λ c. search (seeking, walking, needs))
     (λ c. search (seeking, walking, needs))
-    (λ c. search (seeking, walking, needs))
+    (λ c κs. search (seeking, walking, needs))
     (λ c. search (seeking, walking, needs))
     (λ c. search (seeking, walking, needs))
     (λ c κs. search (seeking, walking, needs))

@@ -20,7 +20,7 @@ module-at-spec =
     Inv-loop
     μ-loop
     (λ c. search (reaching, walking, needs))
-    (λ c. search (reaching, walking, needs))
+    (λ c κs. search (reaching, walking, needs))
     (λ c. search (reaching, walking, needs))
     (λ c. search (reaching, walking, needs))
     (λ c. search (reaching, walking, needs))

@@ -6,10 +6,10 @@ use Rattle.values.proofs.parameter.named.Statement.{statement}
 use Rattle.values.proofs.parameter.named.Tie as tie
 
 abbrev Inv-loop : tie.InvT-loop
-Inv-loop rows m indices kind count j₀ j = Seeking m indices count j
+Inv-loop rows m indices layout count j₀ j = Seeking m indices count j
 
 abbrev μ-loop : tie.MeasureT-loop
-μ-loop rows m indices kind count j₀ j = count - j
+μ-loop rows m indices layout count j₀ j = count - j
 
 pub named-spec : {M : Type 1} → statement M
 named-spec =

@@ -20,7 +20,7 @@ parameter-at-spec =
     Inv-loop
     μ-loop
     (λ c. search (passing, walking, needs))  -- loop-holds
-    (λ c. search (passing, walking, needs))  -- shared-slice-read-kind
+    (λ c κs. search (passing, walking, needs))  -- layout-at-requires
     (λ c κs. search (passing, walking, needs))  -- row-count-requires
     (λ c. search (passing, walking, needs))  -- sub-if1
     (λ c. search (passing, walking, needs))  -- sub-j

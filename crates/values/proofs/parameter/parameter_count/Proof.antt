@@ -20,7 +20,7 @@ parameter-count-spec =
     Inv-loop
     μ-loop
     (λ c. search (counting, walking, needs))  -- loop-holds
-    (λ c. search (counting, walking, needs))  -- shared-slice-read-kind
+    (λ c κs. search (counting, walking, needs))  -- layout-at-requires
     (λ c. search (counting, walking, needs))  -- add-records
     (λ c. search (counting, walking, needs))  -- add-at
     (λ c κs. search (counting, walking, needs))  -- body-length-requires
