@@ -13,9 +13,10 @@ pub fn module_fits(rows: &[[i32; 8]; 50], layout: Layout, values: &[i64]) -> boo
     requires { ⌜ (now rows ≡ numbers) × (knownLayout layout ≡ true) × (length (now values) ≡ length (rowsOf layout)) ⌝ }
     ensures { λ r. ⌜ r ≡ rowsPermit (rowsOf layout) (now (values .entry)) ⌝ }
 {
+    let first = first_row(layout.kind);
     let mut j = 0;
     while j < values.len() {
-        if !row_permits(rows, first_row(layout.kind) + j, values[j]) {
+        if !row_permits(rows, first + j, values[j]) {
             return false;
         }
         j += 1;

@@ -19,45 +19,50 @@ use Rattle.values.specs.Permit.{rowsPermit}
 use Rattle.catalogue.specs.declared.layout.Layout.{Layout}
 use Rattle.catalogue.specs.declared.row.Row.{Row}
 
--- the first j values are permitted
-pub record Tested (x : Layout) (vs : List ℤ) (j : ℕ) : Type 0 where
+-- a layout whose rows begin at `first` in the catalogue, one for each value
+pub record Laid (first : ℕ) (vs : List ℤ) (x : Layout) : Type 0 where
   pub known : knownLayout x ≡ true
+  pub begins : first ≡ firstRow (x .kind)
   pub many : length vs ≡ length (rowsOf x)
+
+-- the first j values are permitted, for every such layout
+pub record Tested (first : ℕ) (vs : List ℤ) (j : ℕ) : Type 0 where
   pub within : j ≤ length vs
-  pub rest : rowsPermit (rowsOf x) vs ≡ rowsPermit (drop j (rowsOf x)) (drop j vs)
+  pub rest : (x : Layout) → Laid first vs x → rowsPermit (rowsOf x) vs ≡ rowsPermit (drop j (rowsOf x)) (drop j vs)
 
-pub tested-start : (x : Layout) (vs : List ℤ) → knownLayout x ≡ true → length vs ≡ length (rowsOf x) → Tested x vs 0
-tested-start x vs k e = record { known = k; many = e; within = omega arith; rest = refl }
+pub tested-start : (first : ℕ) (vs : List ℤ) → Tested first vs 0
+tested-start first vs = record { within = omega arith; rest = λ x h. refl }
 
-pub tested-inside : (x : Layout) (vs : List ℤ) (j : ℕ) → Tested x vs j → j < length vs → j < length (rowsOf x)
-tested-inside x vs j s l = omega (arith, s .many)
+pub tested-inside : (x : Layout) (vs : List ℤ) (j : ℕ) → length vs ≡ length (rowsOf x) → j < length vs → j < length (rowsOf x)
+tested-inside x vs j e l = omega arith
 
 head : (r : Row) (rs : List Row) (v : ℤ) (vs : List ℤ) → rowsPermit (r ∷ rs) (v ∷ vs) ≡ (permitted r v && rowsPermit rs vs)
 unfolding rowsPermit
 head r rs v vs = refl
 
-module _ (x : Layout) (vs : List ℤ) (j : ℕ) (s : Tested x vs j) (l : j < length vs) (first : ℕ) (e : first ≡ firstRow (x .kind)) (t : Bool) (f : SFits w64 (getD vs j (pos 0))) (g : t ≡ permitted (entryAt (first + j) .row) (toZ w64 (ofZ w64 (getD vs j (pos 0))))) where
-  row-is : entryAt (first + j) .row ≡ rowOf x j
-  row-is = run-row x j first (s .known) (tested-inside x vs j s l) e _ refl
-
-  at-value : rowsPermit (rowsOf x) vs ≡ (t && rowsPermit (drop (j + 1) (rowsOf x)) (drop (j + 1) vs))
-  at-value =
-      s .rest
-      ∙ rw (rows-from x j (tested-inside x vs j s l), drop-cons vs j (pos 0) l, ← add-one j)
+module _ (first : ℕ) (vs : List ℤ) (j : ℕ) (s : Tested first vs j) (l : j < length vs) (t : Bool) (f : SFits w64 (getD vs j (pos 0))) (g : t ≡ permitted (entryAt (first + j) .row) (toZ w64 (ofZ w64 (getD vs j (pos 0))))) where
+  at-value : (x : Layout) → Laid first vs x → rowsPermit (rowsOf x) vs ≡ (t && rowsPermit (drop (j + 1) (rowsOf x)) (drop (j + 1) vs))
+  at-value x h =
+      let inside = tested-inside x vs j (h .many) l in
+      let row-is : entryAt (first + j) .row ≡ rowOf x j = run-row x j first (h .known) inside (h .begins) _ refl in
+      s .rest x h
+      ∙ rw (rows-from x j inside, drop-cons vs j (pos 0) l, ← add-one j)
       (head (rowOf x j) (drop (j + 1) (rowsOf x)) (getD vs j (pos 0)) (drop (j + 1) vs) ∙ rw (sym (rw (toZ-ofZ f, row-is) at g)))
 
-  pub tested-next : t ≡ true → Tested x vs (j + 1)
-  tested-next h = record { known = s .known; many = s .many; within = omega arith; rest = rw h at at-value }
+  pub tested-next : t ≡ true → Tested first vs (j + 1)
+  tested-next h = record { within = omega arith; rest = λ x k. rw h at (at-value x k) }
 
-  pub tested-wrong : t ≡ false → false ≡ rowsPermit (rowsOf x) vs
-  tested-wrong h = sym (rw h at at-value)
+  pub tested-wrong : (x : Layout) → knownLayout x ≡ true → first ≡ firstRow (x .kind) → length vs ≡ length (rowsOf x) → t ≡ false → false ≡ rowsPermit (rowsOf x) vs
+  tested-wrong x k b e h = sym (rw h at (at-value x (record { known = k; begins = b; many = e })))
 
 nothing-left : (rs : List Row) → rowsPermit rs [] ≡ true
 unfolding rowsPermit
 nothing-left [] = refl
 nothing-left (r ∷ rs) = refl
 
-pub tested-all : (x : Layout) (vs : List ℤ) (j : ℕ) → Tested x vs j → length vs ≤ j → true ≡ rowsPermit (rowsOf x) vs
-tested-all x vs j s l = sym (s .rest ∙ rw (drop-of-length-le vs l) (nothing-left (drop j (rowsOf x))))
+pub tested-all : (first : ℕ) (vs : List ℤ) (j : ℕ) (x : Layout) → Tested first vs j → length vs ≤ j
+    → knownLayout x ≡ true → first ≡ firstRow (x .kind) → length vs ≡ length (rowsOf x) → true ≡ rowsPermit (rowsOf x) vs
+tested-all first vs j x s l k b e =
+    sym (s .rest x (record { known = k; begins = b; many = e }) ∙ rw (drop-of-length-le vs l) (nothing-left (drop j (rowsOf x))))
 
 pub ruleset testing = (tested-start, tested-inside, tested-next, tested-wrong, tested-all, not-true, not-false)

@@ -8,10 +8,10 @@ use Rattle.values.proofs.module_values.module_fits.Statement.{statement
 use Rattle.values.proofs.module_values.module_fits.Tie as tie
 
 abbrev Inv-loop : tie.InvT-loop
-Inv-loop rows layout values j₀ j = Tested layout values j
+Inv-loop rows values first j₀ j = Tested first values j
 
 abbrev μ-loop : tie.MeasureT-loop
-μ-loop rows layout values j₀ j = length values - j
+μ-loop rows values first j₀ j = length values - j
 
 pub module-fits-spec : {M : Type 1} → statement M
 module-fits-spec =
@@ -19,8 +19,8 @@ module-fits-spec =
     (tie.spec
     Inv-loop
     μ-loop
-    (λ c. search (testing, needs))  -- loop-holds
     (λ c κs. search (taking, testing, needs))  -- first-row-requires
+    (λ c. search (testing, needs))  -- loop-holds
     (λ c. search (taking, testing, needs))  -- add-row-permits
     (λ c. search (testing, needs))  -- mul-row-permits
     (λ c. search (testing, needs))  -- shared-slice-copy-out-row-permits
