@@ -10,6 +10,7 @@ use lib.Dec.{eqb}
 use lib.IntN.{ℤ}
 use lib.ListN.{length, getD, drop}
 use Rattle.syntax.specs.Shape.{lineLimit}
+use Rattle.values.specs.Room.{Room}
 use Rattle.serial_port.specs.Port.{View, view}
 use Rattle.serial_port.specs.Call.{Told, call, step}
 use Rattle.serial_port.specs.Refusal.{callNumber}
@@ -35,8 +36,8 @@ unfoldable pub counted : Told (List ℤ) → PortAnswer
 counted c = portTells (c .number) (c .consumed ∷ c .sent ∷ []) (c .state) (c .buffer)
 
 -- the whole call but for the port's bytes; a refusal counts zero and changes nothing else
-unfoldable pub portAnswer : (table : List ℕ) → List ℤ → (port given reply : List ℕ) → PortAnswer
-portAnswer t vs port given reply = counted (call t vs (portOf port) given reply)
+unfoldable pub portAnswer : Room → List ℤ → (port given reply : List ℕ) → PortAnswer
+portAnswer r vs port given reply = counted (call r vs (portOf port) given reply)
 
 -- the bytes of a port that is seen as v: it claims at most 64, and overrun is 0 or 1. Left open, as the rules leave them, are the held bytes of a port that
 -- has overrun, and what is stored past the held bytes
@@ -52,7 +53,7 @@ Left zero [] port v port′ = port′ ≡ port
 Left zero (b ∷ given) port v port′ = Stores v port′
 
 -- the promise of the port call: its answer, and the bytes of the port
-pub data PortCalled (t : List ℕ) (vs : List ℤ) (port given reply : List ℕ) (r : ℕ) (vs′ : List ℤ) (port′ reply′ told′ : List ℕ) : Type 0 where
-  called : (answers : portTells r told′ vs′ reply′ ≡ portAnswer t vs port given reply)
-      → (left : Left (callNumber t vs (length reply) (portOf port .len)) given port (step (controlSpace t) vs (view (portOf port)) given .port) port′)
-      → PortCalled t vs port given reply r vs′ port′ reply′ told′
+pub data PortCalled (r : Room) (vs : List ℤ) (port given reply : List ℕ) (g : ℕ) (vs′ : List ℤ) (port′ reply′ told′ : List ℕ) : Type 0 where
+  called : (answers : portTells g told′ vs′ reply′ ≡ portAnswer r vs port given reply)
+      → (left : Left (callNumber r vs (length reply) (portOf port .len)) given port (step (controlSpace r) vs (view (portOf port)) given .port) port′)
+      → PortCalled r vs port given reply g vs′ port′ reply′ told′

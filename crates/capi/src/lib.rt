@@ -9,6 +9,8 @@ use restore::restore;
 use room::table::check;
 ghost use mathlib.Core.Path.{_≡_};
 ghost use Rattle.room.specs.Table.{tableNumber};
+ghost use Rattle.values.specs.Room.{roomOf};
+ghost use Rattle.wish.specs.Target.{wishOf};
 ghost use Rattle.capi.specs.Log.{logAnswer};
 ghost use Rattle.capi.specs.Port.{PortCalled};
 ghost use Rattle.capi.specs.Restore.{restoreAnswer, restoreTells};
@@ -49,7 +51,7 @@ pub extern "C" fn egrivundo_port(
     reply: &mut [u8],
     told: &mut [u64; 2],
 ) -> u8
-    ensures { λ r. ⌜ PortCalled (now (table .entry)) (now (values .entry)) (now (port .entry)) (now (given .entry)) (now (reply .entry)) r (now (values .exit)) (now (port .exit)) (now (reply .exit)) (now (told .exit)) ⌝ }
+    ensures { λ r. ⌜ PortCalled (roomOf (now (table .entry))) (now (values .entry)) (now (port .entry)) (now (given .entry)) (now (reply .entry)) r (now (values .exit)) (now (port .exit)) (now (reply .exit)) (now (told .exit)) ⌝ }
 {
     let called = port_of(port).take(table, values, given, reply);
     *told = [called.consumed as u64, called.sent as u64];
@@ -73,7 +75,7 @@ pub extern "C" fn egrivundo_restore(
     list: &mut [u8],
     told: &mut [u64; 2],
 ) -> u8
-    ensures { λ r. ⌜ restoreTells r (now (told .exit)) (now (list .exit)) ≡ restoreAnswer (record { table = now (table .entry); present = now (present .entry); selection = now (selection .entry); wanted = now (wanted .entry) }) (now (list .entry)) ⌝ }
+    ensures { λ r. ⌜ restoreTells r (now (told .exit)) (now (list .exit)) ≡ restoreAnswer (wishOf (now (table .entry)) (now (present .entry)) (now (selection .entry)) (now (wanted .entry))) (now (list .entry)) ⌝ }
 {
     let restored = restore(table, present, selection, wanted, list);
     *told = [restored.bytes as u64, restored.lines as u64];

@@ -10,6 +10,7 @@ use lib.IntN.{ℤ, pos}
 use lib.ListN.{getD, set}
 use Rattle.text.specs.Written.{Wrote}
 use Rattle.values.specs.Parameters.{place}
+use Rattle.values.specs.Room.{Room}
 use Rattle.line.specs.Meaning.{meaning}
 use Rattle.spelling.specs.Reply.{getReply}
 use Rattle.spelling.specs.Acknowledgement.{ack, nak}
@@ -27,9 +28,9 @@ act t vs (Get p) = record { reply = getReply t p (getD vs (place p) (pos 0)); va
 act t vs (Put p x) = record { reply = ack; values = set vs (place p) x }
 
 -- the answer to a line: what it means in the room with these values is done
-unfoldable pub answer : List ℕ → List ℤ → List ℕ → Answer
-answer t vs line = act t vs (meaning t vs line)
+unfoldable pub answer : Room → List ℤ → List ℕ → Answer
+answer r vs line = act (r .table) vs (meaning r vs line)
 
 -- what answering a line leaves: the reply first in its buffer with every byte behind it as it was, its length as the answer, and the values
-pub data Answers (t : List ℕ) (vs : List ℤ) (line buffer : List ℕ) (sent : ℕ) (vs′ : List ℤ) (buffer′ : List ℕ) : Type 0 where
-  answers : (reply : Wrote buffer 0 (answer t vs line .reply) sent buffer′) → (values : vs′ ≡ answer t vs line .values) → Answers t vs line buffer sent vs′ buffer′
+pub data Answers (r : Room) (vs : List ℤ) (line buffer : List ℕ) (sent : ℕ) (vs′ : List ℤ) (buffer′ : List ℕ) : Type 0 where
+  answers : (reply : Wrote buffer 0 (answer r vs line .reply) sent buffer′) → (values : vs′ ≡ answer r vs line .values) → Answers r vs line buffer sent vs′ buffer′

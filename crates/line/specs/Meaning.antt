@@ -8,6 +8,7 @@ use lib.IntN.{ℤ, pos}
 use lib.ListN.{length, getD}
 use Rattle.room.specs.Label.{bearer}
 use Rattle.values.specs.Parameters.{named, place}
+use Rattle.values.specs.Room.{Room, rowIn}
 use Rattle.room.specs.declared.label.Bearer.{Bearer}
 use Rattle.room.specs.declared.label.Bearer.the-variants.{Only, NotOne}
 use Rattle.room.specs.declared.table.Module.{Module}
@@ -54,9 +55,10 @@ unfoldable pub getOf : Target → Meaning
 getOf (target p) = Get p
 getOf (code n) = Code n
 
-unfoldable pub setOf : List ℤ → List ℕ → Target → Meaning
-setOf vs text (target p) = putOf p (readValue (p .row) (getD vs (place p) (pos 0)) text)
-setOf vs text (code n) = Code n
+-- the text is read by the row by which the room judges the parameter's value
+unfoldable pub setOf : Room → List ℤ → List ℕ → Target → Meaning
+setOf r vs text (target p) = putOf p (readValue (rowIn r p) (getD vs (place p) (pos 0)) text)
+setOf r vs text (code n) = Code n
 
 -- the module that alone bears a line's label, which stands between its quotes; a malformed line has no label
 unfoldable pub bearerOf : List ℕ → (line : List ℕ) → Shape → Bearer
@@ -65,11 +67,11 @@ bearerOf t line (shape.Get o c) = bearer t (part line (o + 1) c)
 bearerOf t line (shape.Set o c e) = bearer t (part line (o + 1) c)
 
 -- the parts of a line whose label's bearer is known, in the order of the codes: 99 its shape, 1 its label, 2 its index part, 3 its value text
-unfoldable pub ofShape : List ℤ → (line : List ℕ) → Bearer → Shape → Meaning
-ofShape vs line b shape.Malformed = Code 99
-ofShape vs line b (shape.Get o c) = getOf (inRoom b (readIndices (part line (c + 1) (length line))))
-ofShape vs line b (shape.Set o c e) = setOf vs (part line (e + 1) (length line)) (inRoom b (readIndices (part line (c + 1) e)))
+unfoldable pub ofShape : Room → List ℤ → (line : List ℕ) → Bearer → Shape → Meaning
+ofShape r vs line b shape.Malformed = Code 99
+ofShape r vs line b (shape.Get o c) = getOf (inRoom b (readIndices (part line (c + 1) (length line))))
+ofShape r vs line b (shape.Set o c e) = setOf r vs (part line (e + 1) (length line)) (inRoom b (readIndices (part line (c + 1) e)))
 
--- what a line means in the room of table t and values vs
-unfoldable pub meaning : List ℕ → List ℤ → List ℕ → Meaning
-meaning t vs line = ofShape vs line (bearerOf t line (shape line)) (shape line)
+-- what a line means in the room r with values vs
+unfoldable pub meaning : Room → List ℤ → List ℕ → Meaning
+meaning r vs line = ofShape r vs line (bearerOf (r .table) line (shape line)) (shape line)

@@ -20,6 +20,7 @@ use Rattle.record.specs.Body.{bodyLength}
 use Rattle.record.specs.Layout.{layoutOf}
 use Rattle.room.specs.Label.{label, same, bearersIn, exactlyOne, bearer}
 use Rattle.values.specs.Parameters.{numbered, parametersOf, place, withIndices, named}
+use Rattle.values.specs.Room.{roomOf, rowIn}
 use Rattle.syntax.specs.Shape.{lineLimit, isSet, isGet, opening, closing, equals, getShape, setShape, quoted, shape}
 use Rattle.syntax.specs.IndexPart.{oneGroup, twoGroups, groups, readIndices}
 use Rattle.syntax.specs.Value.{ofLevel, ofNumber, ofSwitch, readKind, onlyPermitted, readValue}
@@ -91,14 +92,14 @@ sameAnswer a c = same (a .reply) (c .reply) && sameValues (a .values) (c .values
 
 -- a line is answered as its case says
 unfoldable pub answered : Case → Bool
-answered c = sameAnswer (answer tableA zeros (c .line)) c
+answered c = sameAnswer (answer (roomOf tableA) zeros (c .line)) c
 
 pub worked : every answered cases ≡ true
 unfolding answered cases bytes puts told refused tableA oneByteRecord zeros sameAnswer sameValues equal
     indexOf has before after isDigit allDigits every readOn numberOf digitsWithin digits
     signed levelTenth levelPoint levelMore levelWhole readLevel numberForm readNumber switchLetter readSwitch switchText
     minus level switch number catalogue rowsIn rowsOf permitted bodyLength layoutOf recordLimit modulesFrom modules
-    label same bearersIn exactlyOne bearer numbered parametersOf place sameIndices withIndices named
+    label same bearersIn exactlyOne bearer numbered parametersOf place rowIn sameIndices withIndices named
     lineLimit isSet isGet opening firstFrom closing equals getShape setShape quoted shape part
     oneGroup twoGroups groups readIndices ofLevel ofNumber ofSwitch readKind onlyPermitted readValue
     indexed inModule inRoom putOf getOf setOf bearerOf ofShape meaning ack nak indexText textOf name getReply act answer

@@ -18,6 +18,7 @@ ghost use Rattle.text.specs.Written.{Wrote};
 ghost use Rattle.catalogue.specs.Catalogue.{numbers};
 ghost use Rattle.values.specs.Parameters.{place};
 ghost use Rattle.room.specs.Table.{sound};
+ghost use Rattle.values.specs.Room.{roomOf};
 ghost use Rattle.values.specs.Values.{valuesSound};
 ghost use Rattle.syntax.specs.Shape as syntax;
 ghost use Rattle.line.specs.Meaning.{bearerOf};
@@ -58,11 +59,11 @@ fn answer_shaped(
     shape: Shape,
     reply: &mut [u8],
 ) -> usize
-    requires { ⌜ (sound (now table) ≡ true) × (now rows ≡ numbers) × (valuesSound (now table) (now values) ≡ true) ⌝ }
+    requires { ⌜ (sound (now table) ≡ true) × (now rows ≡ numbers) × (valuesSound (roomOf (now table)) (now values) ≡ true) ⌝ }
     requires { ⌜ (64 ≤ length (now reply)) × (shape ≡ syntax.shape (now line)) × (bearer ≡ bearerOf (now table) (now line) shape) ⌝ }
-    ensures { λ r. ⌜ Answers (now (table .entry)) (now (values .entry)) (now (line .entry)) (now (reply .entry)) r (now (values .exit)) (now (reply .exit)) ⌝ }
+    ensures { λ r. ⌜ Answers (roomOf (now (table .entry))) (now (values .entry)) (now (line .entry)) (now (reply .entry)) r (now (values .exit)) (now (reply .exit)) ⌝ }
 {
-    match meaning_of(rows, values, line, bearer, shape) {
+    match meaning_of(table, rows, values, line, bearer, shape) {
         Meaning::Code(n) => put_nak(reply, n),
         Meaning::Get(p) => tell(table, values, p, reply),
         Meaning::Put(p, x) => put(values, p, x, reply),
@@ -77,9 +78,9 @@ pub fn answer_line(
     line: &[u8],
     reply: &mut [u8],
 ) -> usize
-    requires { ⌜ (sound (now table) ≡ true) × (now rows ≡ numbers) × (valuesSound (now table) (now values) ≡ true) ⌝ }
+    requires { ⌜ (sound (now table) ≡ true) × (now rows ≡ numbers) × (valuesSound (roomOf (now table)) (now values) ≡ true) ⌝ }
     requires { ⌜ 64 ≤ length (now reply) ⌝ }
-    ensures { λ r. ⌜ Answers (now (table .entry)) (now (values .entry)) (now (line .entry)) (now (reply .entry)) r (now (values .exit)) (now (reply .exit)) ⌝ }
+    ensures { λ r. ⌜ Answers (roomOf (now (table .entry))) (now (values .entry)) (now (line .entry)) (now (reply .entry)) r (now (values .exit)) (now (reply .exit)) ⌝ }
 {
     let shape = shape_of(line);
     let bearer = bearer_of(table, line, shape);

@@ -20,6 +20,7 @@ ghost use Rattle.room.specs.Label.{bearer};
 ghost use Rattle.text.specs.Cut.{part};
 ghost use Rattle.values.specs.Parameters.{place};
 ghost use Rattle.room.specs.Table.{sound};
+ghost use Rattle.values.specs.Room.{roomOf, rowIn};
 ghost use Rattle.syntax.specs.IndexPart.{readIndices};
 ghost use Rattle.line.specs.Meaning.{bearerOf, getOf, inRoom, indexed, ofShape, putOf, setOf};
 ghost use Rattle.line.specs.Meaning.Reading.{Holds, KnownBearer, Seated, aim};
@@ -64,10 +65,10 @@ fn target_of(rows: &[[i32; 8]; 50], bearer: Bearer, part: &[u8]) -> Target
     }
 }
 
-// The value that a text puts to a parameter, or the code 3.
-fn put_meaning(values: &[i64], p: Parameter, text: &[u8]) -> Meaning
-    requires { ⌜ Holds (now values) p ⌝ }
-    ensures { λ r. ⌜ r ≡ putOf p (readValue (p .row) (getD (now (values .entry)) (place p) (pos 0)) (now (text .entry))) ⌝ }
+// The value that a text puts to a parameter, or the code 3. Only the contract needs the table: it says in which room the value is judged.
+fn put_meaning(table: &[u8], values: &[i64], p: Parameter, text: &[u8]) -> Meaning
+    requires { ⌜ Holds (roomOf (now table)) (now values) p ⌝ }
+    ensures { λ r. ⌜ r ≡ putOf p (readValue (rowIn (roomOf (now (table .entry))) p) (getD (now (values .entry)) (place p) (pos 0)) (now (text .entry))) ⌝ }
 {
     let place = p.owner.first + p.number;
     let present = values[place];
@@ -90,6 +91,7 @@ fn get_line(rows: &[[i32; 8]; 50], line: &[u8], bearer: Bearer, close: usize) ->
 
 // A set line, from the bearer of its label and the places of its closing quote and its `=`.
 fn set_line(
+    table: &[u8],
     rows: &[[i32; 8]; 50],
     values: &[i64],
     line: &[u8],
@@ -97,31 +99,32 @@ fn set_line(
     close: usize,
     equal: usize,
 ) -> Meaning
-    requires { ⌜ (now rows ≡ numbers) × Seated (now values) bearer ⌝ }
+    requires { ⌜ (now rows ≡ numbers) × Seated (roomOf (now table)) (now values) bearer ⌝ }
     requires { ⌜ (close < equal) × (equal < length (now line)) ⌝ }
-    ensures { λ r. ⌜ r ≡ setOf (now (values .entry)) (part (now (line .entry)) (equal + 1) (length (now (line .entry)))) (inRoom bearer (readIndices (part (now (line .entry)) (close + 1) equal))) ⌝ }
+    ensures { λ r. ⌜ r ≡ setOf (roomOf (now (table .entry))) (now (values .entry)) (part (now (line .entry)) (equal + 1) (length (now (line .entry)))) (inRoom bearer (readIndices (part (now (line .entry)) (close + 1) equal))) ⌝ }
 {
     match target_of(rows, bearer, &line[close + 1..equal]) {
-        Target::At(p) => put_meaning(values, p, &line[equal + 1..]),
+        Target::At(p) => put_meaning(table, values, p, &line[equal + 1..]),
         Target::Code(n) => Meaning::Code(n),
     }
 }
 
 // What a shaped line means, where the bearer of its label is known.
 pub(crate) fn meaning_of(
+    table: &[u8],
     rows: &[[i32; 8]; 50],
     values: &[i64],
     line: &[u8],
     bearer: Bearer,
     shape: Shape,
 ) -> Meaning
-    requires { ⌜ (now rows ≡ numbers) × Seated (now values) bearer × (shape ≡ syntax.shape (now line)) ⌝ }
-    ensures { λ r. ⌜ r ≡ ofShape (now (values .entry)) (now (line .entry)) bearer shape ⌝ }
+    requires { ⌜ (now rows ≡ numbers) × Seated (roomOf (now table)) (now values) bearer × (shape ≡ syntax.shape (now line)) ⌝ }
+    ensures { λ r. ⌜ r ≡ ofShape (roomOf (now (table .entry))) (now (values .entry)) (now (line .entry)) bearer shape ⌝ }
 {
     match shape {
         Shape::Malformed => Meaning::Code(99),
         Shape::Get(_, close) => get_line(rows, line, bearer, close),
-        Shape::Set(_, close, equal) => set_line(rows, values, line, bearer, close, equal),
+        Shape::Set(_, close, equal) => set_line(table, rows, values, line, bearer, close, equal),
     }
 }
 

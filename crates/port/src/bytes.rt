@@ -7,6 +7,7 @@ ghost use Prim.Native.Nat.{_*_, _≤_};
 ghost use lib.ListN.{length};
 ghost use Rattle.catalogue.specs.Catalogue.{numbers};
 ghost use Rattle.room.specs.Table.{sound};
+ghost use Rattle.values.specs.Room.{roomOf};
 ghost use Rattle.values.specs.Values.{valuesSound};
 ghost use Rattle.port.specs.Input.{Answers};
 
@@ -25,9 +26,9 @@ pub(crate) fn answer_bytes(
     given: &[u8],
     out: &mut [u8],
 ) -> Answered
-    requires { ⌜ (sound (now table) ≡ true) × (now rows ≡ numbers) × (valuesSound (now table) (now values) ≡ true) ⌝ }
+    requires { ⌜ (sound (now table) ≡ true) × (now rows ≡ numbers) × (valuesSound (roomOf (now table)) (now values) ≡ true) ⌝ }
     requires { ⌜ (port .len ≤ 64) × (64 * length (now given) ≤ length (now out)) ⌝ }
-    ensures { λ r. ⌜ Answers (now (table .entry)) (now (values .entry)) port (now (given .entry)) (now (out .entry)) r (now (values .exit)) (now (out .exit)) ⌝ }
+    ensures { λ r. ⌜ Answers (roomOf (now (table .entry))) (now (values .entry)) port (now (given .entry)) (now (out .entry)) r (now (values .exit)) (now (out .exit)) ⌝ }
 {
     let served = serve_all(table, rows, values, port, given, out);
     let after = served.port;

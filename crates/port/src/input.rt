@@ -12,6 +12,7 @@ ghost use Prim.Native.Nat.{_*_, _≤_};
 ghost use lib.ListN.{length};
 ghost use Rattle.catalogue.specs.Catalogue.{numbers};
 ghost use Rattle.room.specs.Table.{sound};
+ghost use Rattle.values.specs.Room.{roomOf};
 ghost use Rattle.values.specs.Values.{valueLimit, valuesSound};
 ghost use Rattle.port.specs.Input.{AnswersAll};
 
@@ -25,9 +26,9 @@ fn answer_all(
     input: &mut [u8],
     out: &mut [u8],
 ) -> Turn
-    requires { ⌜ (sound (now table) ≡ true) × (now rows ≡ numbers) × (valuesSound (now table) (now values) ≡ true) ⌝ }
+    requires { ⌜ (sound (now table) ≡ true) × (now rows ≡ numbers) × (valuesSound (roomOf (now table)) (now values) ≡ true) ⌝ }
     requires { ⌜ (port .len ≤ 64) × (64 * length (now input) ≤ length (now out)) ⌝ }
-    ensures { λ r. ⌜ AnswersAll (now (table .entry)) (now (values .entry)) port r (now (values .exit)) ⌝ }
+    ensures { λ r. ⌜ AnswersAll (roomOf (now (table .entry))) (now (values .entry)) port r (now (values .exit)) ⌝ }
 {
     let mut port = port;
     let mut turns = u64::MAX;

@@ -9,6 +9,7 @@ ghost use Prim.Native.Nat.{_*_, _≤_};
 ghost use lib.ListN.{length};
 ghost use Rattle.catalogue.specs.Catalogue.{numbers};
 ghost use Rattle.room.specs.Table.{sound};
+ghost use Rattle.values.specs.Room.{roomOf};
 ghost use Rattle.values.specs.Values.{valuesSound};
 ghost use Rattle.port.specs.Input.{AnswersRead};
 
@@ -34,9 +35,9 @@ pub(crate) fn answer_read(
     input: &mut [u8],
     out: &mut [u8],
 ) -> Turn
-    requires { ⌜ (sound (now table) ≡ true) × (now rows ≡ numbers) × (valuesSound (now table) (now values) ≡ true) ⌝ }
+    requires { ⌜ (sound (now table) ≡ true) × (now rows ≡ numbers) × (valuesSound (roomOf (now table)) (now values) ≡ true) ⌝ }
     requires { ⌜ (port .len ≤ 64) × (64 * length (now input) ≤ length (now out)) ⌝ }
-    ensures { λ r. ⌜ AnswersRead (now (table .entry)) (now (values .entry)) port (now (input .exit)) (now (out .entry)) r (now (values .exit)) (now (out .exit)) ⌝ }
+    ensures { λ r. ⌜ AnswersRead (roomOf (now (table .entry))) (now (values .entry)) port (now (input .exit)) (now (out .entry)) r (now (values .exit)) (now (out .exit)) ⌝ }
 {
     let got = libc::read(STDIN_FILENO, input);
     let count = io::count(got, input);

@@ -26,8 +26,8 @@ use Rattle.restore.specs.declared.Restored.{Restored}
 
 -- played with a reply buffer of `replyRooms n` bytes for call n, it leaves chosen modules as wanted and every other parameter as it was
 pub record Fulfils (w : Wish) (replyRooms : ℕ → ℕ) (bs : List ℕ) : Type 0 where
-  pub served : play (w .table) replyRooms (w .present) bs .refused ≡ false
-  pub reached : play (w .table) replyRooms (w .present) bs .state ≡ target w
+  pub served : play (w .room) replyRooms (w .present) bs .refused ≡ false
+  pub reached : play (w .room) replyRooms (w .present) bs .state ≡ target w
 
 -- a shortest one of all byte sequences that fulfil the wish; no list with other numbers in it is shorter either
 pub record Shortest (w : Wish) (replyRooms : ℕ → ℕ) (list : List ℕ) : Type 0 where
@@ -41,9 +41,9 @@ pub record Listed (w : Wish) (replyRooms : ℕ → ℕ) (room : ℕ) (a : Told) 
   pub shortest : Shortest w replyRooms (take (a .bytes) (a .buffer))
   pub bytes : a .bytes ≡ length (take (a .bytes) (a .buffer))
   pub fits : a .bytes ≤ room
-  pub acknowledged : play (w .table) replyRooms (w .present) (take (a .bytes) (a .buffer)) .replies ≡ replicate (a .lines) ack
-  pub ends : play (w .table) replyRooms (w .present) (take (a .bytes) (a .buffer)) .port ≡ fresh
-  pub lines : a .lines ≡ differing (w .selection) (parameters (w .table)) (w .present) (w .wanted)
+  pub acknowledged : play (w .room) replyRooms (w .present) (take (a .bytes) (a .buffer)) .replies ≡ replicate (a .lines) ack
+  pub ends : play (w .room) replyRooms (w .present) (take (a .bytes) (a .buffer)) .port ≡ fresh
+  pub lines : a .lines ≡ differing (w .selection) (parameters (w .room .table)) (w .present) (w .wanted)
 
 -- the answer of a restore call with a list buffer of `room` bytes: accepted, 7 where no byte sequence fulfils the wish,
 -- or 8 where the shortest that does is longer than the buffer

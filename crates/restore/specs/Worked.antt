@@ -22,6 +22,7 @@ use Rattle.record.specs.Layout.{layoutOf}
 use Rattle.record.specs.Field.{labelByte, labelRight, isZero, fieldSound}
 use Rattle.room.specs.Label.{label, same, bearersIn, exactlyOne, bearer}
 use Rattle.values.specs.Parameters.{numbered, parametersOf, parametersIn, parameters}
+use Rattle.values.specs.Room.{rowIn}
 use Rattle.values.specs.Values.{eachPermitted, valuesSound, valuesNumber, equal}
 use Rattle.spelling.specs.Name.{name}
 use Rattle.spelling.specs.IndexText.{indexText}
@@ -29,7 +30,7 @@ use Rattle.spelling.specs.Say.{say}
 use Rattle.spelling.specs.Text.{textOf}
 use Rattle.line.specs.Worked as reading
 use Rattle.line.specs.Worked.{oneByteRecord, tableA, zeros, bytes}
-use Rattle.wish.specs.Target.{atMostOne, selectionRight, chosen, chosenPermitted, wantedRight, targetOf, target}
+use Rattle.wish.specs.Target.{wishOf, atMostOne, selectionRight, chosen, chosenPermitted, wantedRight, targetOf, target}
 use Rattle.wish.specs.Listing.{changesOf, changes, lineOf, listing, borneOnce, reachable, allReachable, selectionNumber, wantedNumber, reachNumber, spaceNumber, restoreNumber, Told, tell, restore}
 
 -- a restore call: the modules chosen, the wanted values, and the buffer's length; what it tells, and the lines that it writes
@@ -62,7 +63,7 @@ lists =
 
 -- the call on a buffer of zero bytes
 unfoldable pub called : Case → Told
-called c = restore (record { table = tableA; present = zeros; selection = c .selection; wanted = c .wanted }) (replicate (c .room) 0)
+called c = restore (wishOf tableA zeros (c .selection) (c .wanted)) (replicate (c .room) 0)
 
 unfoldable pub agrees : Told → Case → Bool
 agrees a c =
@@ -90,7 +91,7 @@ unfolding shown agrees called lists four wishes ended bytes tableA oneByteRecord
     indexOf before every digitsWithin digits signText tenthText shortTenthText wholeText levelText switchText
     minus level switch number catalogue known rowsIn rowsOf permitted
     labelByte labelRight isZero fieldSound bodyLength bodySound layoutOf recordsSound recordLimit sound modulesFrom modules
-    label same bearersIn exactlyOne bearer numbered parametersOf parametersIn parameters eachPermitted valuesSound
+    label same bearersIn exactlyOne bearer numbered parametersOf parametersIn parameters rowIn eachPermitted valuesSound
     indexText name textOf say atMostOne selectionRight chosen chosenPermitted wantedRight targetOf target equal
     changesOf changes lineOf listing borneOnce reachable allReachable
     firstRefusal tableNumber valuesNumber selectionNumber wantedNumber reachNumber spaceNumber restoreNumber tell restore

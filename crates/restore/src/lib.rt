@@ -13,7 +13,8 @@ ghost use mathlib.Core.Path.{_≡_};
 ghost use Rattle.room.specs.Table.{sound};
 ghost use Rattle.restore.specs.Demand.{Restores};
 ghost use Rattle.wish.specs.Listing.{Admitted, selectionNumber, testNumber, wantedNumber};
-ghost use Rattle.wish.specs.Target.{selectionRight};
+ghost use Rattle.values.specs.Room.{roomOf};
+ghost use Rattle.wish.specs.Target.{selectionRight, wishOf};
 
 // The bytes and the lines written, and the number of a refusal or 0.
 pub struct Restored {
@@ -42,8 +43,8 @@ fn list_changes(
     wanted: &[i64],
     list: &mut [u8],
 ) -> Restored
-    requires { ⌜ (now rows ≡ numbers) × Admitted (record { table = now table; present = now present; selection = now selection; wanted = now wanted }) ⌝ }
-    ensures { λ r. ⌜ Restores (record { table = now (table .entry); present = now (present .entry); selection = now (selection .entry); wanted = now (wanted .entry) }) (now (list .entry)) r (now (list .exit)) ⌝ }
+    requires { ⌜ (now rows ≡ numbers) × Admitted (wishOf (now table) (now present) (now selection) (now wanted)) ⌝ }
+    ensures { λ r. ⌜ Restores (wishOf (now (table .entry)) (now (present .entry)) (now (selection .entry)) (now (wanted .entry))) (now (list .entry)) r (now (list .exit)) ⌝ }
 {
     match measure(table, rows, present, selection, wanted) {
         Measured::Beyond => refused(7),
@@ -75,7 +76,7 @@ fn selection_number(table: &[u8], selection: &[u8]) -> u8
 // 6 where the wanted list is wrong, or 0.
 fn wanted_number(table: &[u8], rows: &[[i32; 8]; 50], selection: &[u8], wanted: &[i64]) -> u8
     requires { ⌜ (sound (now table) ≡ true) × (now rows ≡ numbers) × (selectionRight (now table) (now selection) ≡ true) ⌝ }
-    ensures { λ r. ⌜ r ≡ wantedNumber (now (table .entry)) (now (selection .entry)) (now (wanted .entry)) ⌝ }
+    ensures { λ r. ⌜ r ≡ wantedNumber (roomOf (now (table .entry))) (now (selection .entry)) (now (wanted .entry)) ⌝ }
 {
     if !wanted_right(table, rows, selection, wanted) {
         return 6;
@@ -92,7 +93,7 @@ fn failed_test(
     wanted: &[i64],
 ) -> u8
     requires { ⌜ now rows ≡ numbers ⌝ }
-    ensures { λ r. ⌜ r ≡ testNumber (record { table = now (table .entry); present = now (present .entry); selection = now (selection .entry); wanted = now (wanted .entry) }) ⌝ }
+    ensures { λ r. ⌜ r ≡ testNumber (wishOf (now (table .entry)) (now (present .entry)) (now (selection .entry)) (now (wanted .entry))) ⌝ }
 {
     let of_table = check(table);
     if of_table != 0 {
@@ -117,7 +118,7 @@ pub fn restore(
     wanted: &[i64],
     list: &mut [u8],
 ) -> Restored
-    ensures { λ r. ⌜ Restores (record { table = now (table .entry); present = now (present .entry); selection = now (selection .entry); wanted = now (wanted .entry) }) (now (list .entry)) r (now (list .exit)) ⌝ }
+    ensures { λ r. ⌜ Restores (wishOf (now (table .entry)) (now (present .entry)) (now (selection .entry)) (now (wanted .entry))) (now (list .entry)) r (now (list .exit)) ⌝ }
 {
     let rows = all_rows();
     let number = failed_test(table, &rows, present, selection, wanted);

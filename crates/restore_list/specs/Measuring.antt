@@ -15,11 +15,12 @@ use lib.Dec.{eqb, leb}
 use lib.IntN.{ℤ}
 use lib.ListN.{length, getD, take, drop}
 use Rattle.catalogue.specs.Catalogue.{knownLayout, rowLimit, rowsOf}
-use Rattle.values.specs.Parameters.{parametersOf}
-use Rattle.room.specs.Table.{sound}
+use Rattle.values.specs.Parameters.{parameters, parametersOf}
+use Rattle.room.specs.Table.{modules, sound}
 use Rattle.room.specs.declared.table.Module.{Module}
 use Rattle.wish.specs.Listing.{Change, allReachable, changesOf, listNumber, listing}
 use Rattle.wish.specs.Listing.Settable.{allSettable}
+use Rattle.wish.specs.Listing.Wanted.{wantedChanges}
 use Rattle.restore_list.specs.declared.module_measuring.Measured.{Measured}
 use Rattle.restore_list.specs.declared.module_measuring.Measured.the-variants.{Within, Beyond}
 
@@ -34,6 +35,17 @@ valuesOf m vs = take (length (rowsOf (m .layout))) (drop (m .first) vs)
 -- the wanted changes of any module: none where it is not chosen
 unfoldable pub moduleChanges : (selection : List ℕ) → Module → (present wanted : List ℤ) → List Change
 moduleChanges selection m vs ws = cond (eqb (getD selection (m .number) 0) 1) (rowChanges m (valuesOf m vs) (valuesOf m ws)) []
+
+-- the wanted changes of all modules, which the table alone decides
+unfoldable pub allChanges : (table : List ℕ) → (present : List ℤ) → (selection : List ℕ) → (wanted : List ℤ) → List Change
+allChanges t vs selection ws = wantedChanges selection (parameters t) vs ws
+
+-- the table is sound, and the lists have an entry for each of its modules or parameters
+pub record Matching (t : List ℕ) (present : List ℤ) (selection : List ℕ) (wanted : List ℤ) : Type 0 where
+  pub sounds : sound t ≡ true
+  pub present-long : length present ≡ length (parameters t)
+  pub selection-long : length selection ≡ length (modules t)
+  pub wanted-long : length wanted ≡ length (parameters t)
 
 -- the module stands in the table, its byte in the selection and its values in the lists
 pub record Standing (t : List ℕ) (present : List ℤ) (selection : List ℕ) (wanted : List ℤ) (m : Module) : Type 0 where

@@ -10,8 +10,8 @@ ghost use Prim.Native.Nat.{_+_, _≤_};
 ghost use lib.ListN.{length};
 ghost use Rattle.catalogue.specs.Catalogue.{numbers};
 ghost use Rattle.text.specs.Written.{Wrote};
-ghost use Rattle.wish.specs.Listing.{Admitted, changes, listing};
-ghost use Rattle.restore_list.specs.Measuring.{Standing, moduleChanges};
+ghost use Rattle.wish.specs.Listing.{listing};
+ghost use Rattle.restore_list.specs.Measuring.{Matching, Standing, allChanges, moduleChanges};
 
 // The lines of a module, where it is chosen.
 fn write_module(
@@ -56,9 +56,9 @@ pub fn write(
     wanted: &[i64],
     list: &mut [u8],
 ) -> usize
-    requires { ⌜ (now rows ≡ numbers) × Admitted (record { table = now table; present = now present; selection = now selection; wanted = now wanted }) ⌝ }
-    requires { ⌜ length (listing (now table) (changes (record { table = now table; present = now present; selection = now selection; wanted = now wanted }))) ≤ length (now list) ⌝ }
-    ensures { λ r. ⌜ Wrote (now (list .entry)) 0 (listing (now (table .entry)) (changes (record { table = now (table .entry); present = now (present .entry); selection = now (selection .entry); wanted = now (wanted .entry) }))) r (now (list .exit)) ⌝ }
+    requires { ⌜ (now rows ≡ numbers) × Matching (now table) (now present) (now selection) (now wanted) ⌝ }
+    requires { ⌜ length (listing (now table) (allChanges (now table) (now present) (now selection) (now wanted))) ≤ length (now list) ⌝ }
+    ensures { λ r. ⌜ Wrote (now (list .entry)) 0 (listing (now (table .entry)) (allChanges (now (table .entry)) (now (present .entry)) (now (selection .entry)) (now (wanted .entry)))) r (now (list .exit)) ⌝ }
 {
     let mut number = 0;
     let mut place = 0;

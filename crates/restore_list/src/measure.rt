@@ -11,8 +11,7 @@ ghost use mathlib.Core.Path.{_≡_};
 ghost use lib.ListN.{length};
 ghost use Rattle.catalogue.specs.Catalogue.{numbers};
 ghost use Rattle.room.specs.Label.{label};
-ghost use Rattle.wish.specs.Listing.{Admitted, changes};
-ghost use Rattle.restore_list.specs.Measuring.{Measures, MeasuresModule, Settles, Standing, moduleChanges, rowChanges, valuesOf};
+ghost use Rattle.restore_list.specs.Measuring.{Matching, Measures, MeasuresModule, Settles, Standing, allChanges, moduleChanges, rowChanges, valuesOf};
 
 // The changes of a module's rows, of the parts of the lists that are its own.
 fn module_lines(
@@ -79,8 +78,8 @@ pub fn measure(
     selection: &[u8],
     wanted: &[i64],
 ) -> Measured
-    requires { ⌜ (now rows ≡ numbers) × Admitted (record { table = now table; present = now present; selection = now selection; wanted = now wanted }) ⌝ }
-    ensures { λ r. ⌜ Measures (now (table .entry)) (changes (record { table = now (table .entry); present = now (present .entry); selection = now (selection .entry); wanted = now (wanted .entry) })) r ⌝ }
+    requires { ⌜ (now rows ≡ numbers) × Matching (now table) (now present) (now selection) (now wanted) ⌝ }
+    ensures { λ r. ⌜ Measures (now (table .entry)) (allChanges (now (table .entry)) (now (present .entry)) (now (selection .entry)) (now (wanted .entry))) r ⌝ }
 {
     let mut number = 0;
     let mut place = 0;

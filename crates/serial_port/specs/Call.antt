@@ -12,6 +12,7 @@ use Prim.Native.Nat.{ℕ, zero, suc, _≤_}
 use lib.IntN.{ℤ}
 use lib.ListN.{length}
 use lib.Seq.{sets}
+use Rattle.values.specs.Room.{Room}
 use Rattle.syntax.specs.Shape.{lineLimit}
 use Rattle.serial_port.specs.Server.{Reply, Server, controlSpace}
 use Rattle.serial_port.specs.Refusal.{callNumber}
@@ -77,10 +78,10 @@ pub data Takes {S : Type 0} (server : Server S) (number : ℕ) (s : S) (p : Port
       → (handed : Handed number p (step server s (view p) bs .port) (c .port))
       → Takes server number s p bs buffer c s′ buffer′
 
--- what ControlSpace's call tells, on the table t
-unfoldable pub call : (table : List ℕ) → List ℤ → Port → List ℕ → (buffer : List ℕ) → Told (List ℤ)
-call t vs p bs buffer = tell (callNumber t vs (length buffer) (p .len)) vs buffer (step (controlSpace t) vs (view p) bs)
+-- what ControlSpace's call tells, in the room r
+unfoldable pub call : Room → List ℤ → Port → List ℕ → (buffer : List ℕ) → Told (List ℤ)
+call r vs p bs buffer = tell (callNumber r vs (length buffer) (p .len)) vs buffer (step (controlSpace r) vs (view p) bs)
 
--- the promise of ControlSpace's call: it serves the lines on the table t, and refuses with the number of `callNumber`
-abbrev pub Answers : (table : List ℕ) → List ℤ → Port → (bs buffer : List ℕ) → Called → List ℤ → (buffer′ : List ℕ) → Type 0
-Answers t vs p bs buffer c vs′ buffer′ = Takes (controlSpace t) (callNumber t vs (length buffer) (p .len)) vs p bs buffer c vs′ buffer′
+-- the promise of ControlSpace's call: it serves the lines in the room r, and refuses with the number of `callNumber`
+abbrev pub Answers : Room → List ℤ → Port → (bs buffer : List ℕ) → Called → List ℤ → (buffer′ : List ℕ) → Type 0
+Answers r vs p bs buffer c vs′ buffer′ = Takes (controlSpace r) (callNumber r vs (length buffer) (p .len)) vs p bs buffer c vs′ buffer′

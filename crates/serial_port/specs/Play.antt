@@ -12,6 +12,7 @@ use lib.Dec.{eqb}
 use lib.IntN.{ℤ}
 use lib.ListN.{length, drop}
 use Rattle.text.specs.Cut.{has}
+use Rattle.values.specs.Room.{Room}
 use Rattle.serial_port.specs.Server.{Server, controlSpace}
 use Rattle.serial_port.specs.Port.{View, fresh, claim, join}
 use Rattle.serial_port.specs.Call.{Step, step, finish}
@@ -52,12 +53,12 @@ playFrom server refusal call (suc left) v s (b ∷ bs) =
     (drop (step server s v (b ∷ bs) .consumed) (b ∷ bs)))
 
 -- when a call of ControlSpace is refused; the reply buffer of each call has a length of its own
-unfoldable pub refusal : (table : List ℕ) → (replyRooms : ℕ → ℕ) → (call : ℕ) → List ℤ → View → ℕ
-refusal t replyRooms call vs v = callNumber t vs (replyRooms call) (claim v)
+unfoldable pub refusal : Room → (replyRooms : ℕ → ℕ) → (call : ℕ) → List ℤ → View → ℕ
+refusal r replyRooms call vs v = callNumber r vs (replyRooms call) (claim v)
 
 -- playing to ControlSpace starts from a fresh port; each call consumes a byte or more, so that there are at most as many calls as bytes
-unfoldable pub play : (table : List ℕ) → (replyRooms : ℕ → ℕ) → List ℤ → List ℕ → Played (List ℤ)
-play t replyRooms vs bs = playFrom (controlSpace t) (refusal t replyRooms) 0 (length bs) fresh vs bs
+unfoldable pub play : Room → (replyRooms : ℕ → ℕ) → List ℤ → List ℕ → Played (List ℤ)
+play r replyRooms vs bs = playFrom (controlSpace r) (refusal r replyRooms) 0 (length bs) fresh vs bs
 
 -- the same, byte by byte and without refusals: an 0D finishes the line, any other byte makes it longer
 unfoldable pub feed : {S : Type 0} → Server S → View → S → List ℕ → Played S

@@ -9,6 +9,7 @@ use lib.Dec.{leb}
 use lib.IntN.{ℤ}
 use Rattle.room.specs.Refusal.{firstRefusal}
 use Rattle.room.specs.Table.{tableNumber}
+use Rattle.values.specs.Room.{Room}
 use Rattle.values.specs.Values.{valuesNumber}
 use Rattle.syntax.specs.Shape.{lineLimit}
 
@@ -25,6 +26,6 @@ unfoldable pub claimNumber : (claimed : ℕ) → ℕ
 claimNumber claimed = cond (leb claimed lineLimit) 0 4
 
 -- the first that applies in the call's order, 0 where none does: 1 the table is not sound, 2 the values are wrong, then 3 and 4
-unfoldable pub callNumber : (table : List ℕ) → List ℤ → (replyRoom claimed : ℕ) → ℕ
-callNumber t vs replyRoom claimed =
-    firstRefusal (tableNumber t ∷ valuesNumber t vs ∷ replyNumber replyLimit replyRoom ∷ claimNumber claimed ∷ [])
+unfoldable pub callNumber : Room → List ℤ → (replyRoom claimed : ℕ) → ℕ
+callNumber r vs replyRoom claimed =
+    firstRefusal (tableNumber (r .table) ∷ valuesNumber r vs ∷ replyNumber replyLimit replyRoom ∷ claimNumber claimed ∷ [])

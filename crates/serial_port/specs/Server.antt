@@ -4,6 +4,7 @@ use mathlib.Core.List.{List}
 use Prim.Native.Nat.{ℕ}
 use lib.IntN.{ℤ}
 use Rattle.spelling.specs.Acknowledgement.{nak}
+use Rattle.values.specs.Room.{Room}
 use Rattle.line.specs.Answer.{answer}
 
 -- the one reply to a line, and the state after it
@@ -16,10 +17,10 @@ pub record Server (S : Type 0) : Type 0 where
   pub line : S → List ℕ → Reply S
   pub overrun : S → Reply S
 
--- ControlSpace on the table t, whose state is the values: a line gets its answer; a longer one gets 99 and changes nothing
-unfoldable pub controlSpace : (table : List ℕ) → Server (List ℤ)
-controlSpace t =
+-- ControlSpace in the room r, whose state is the values: a line gets its answer; a longer one gets 99 and changes nothing
+unfoldable pub controlSpace : Room → Server (List ℤ)
+controlSpace r =
     record {
-      line = λ vs l. record { reply = answer t vs l .reply; state = answer t vs l .values };
+      line = λ vs l. record { reply = answer r vs l .reply; state = answer r vs l .values };
       overrun = λ vs. record { reply = nak 99; state = vs };
     }

@@ -13,6 +13,7 @@ ghost use lib.ListN.{length};
 ghost use Rattle.catalogue.specs.Catalogue.{numbers};
 ghost use Rattle.room.specs.Table.{recordLimit, sound};
 ghost use Rattle.syntax.specs.Shape.{lineLimit};
+ghost use Rattle.values.specs.Room.{roomOf};
 ghost use Rattle.values.specs.Values.{valuesSound};
 ghost use Rattle.serial_port.specs.Call.{Answers};
 ghost use Rattle.serial_port.specs.Call.Finishing.{Finishes};
@@ -123,9 +124,9 @@ impl Port {
         values: &mut [i64],
         reply: &mut [u8],
     ) -> usize
-        requires { ⌜ (sound (now table) ≡ true) × (now rows ≡ numbers) × (valuesSound (now table) (now values) ≡ true) ⌝ }
+        requires { ⌜ (sound (now table) ≡ true) × (now rows ≡ numbers) × (valuesSound (roomOf (now table)) (now values) ≡ true) ⌝ }
         requires { ⌜ (64 ≤ length (now reply)) × (self .len ≤ 64) ⌝ }
-        ensures { λ r. ⌜ Finishes (controlSpace (now (table .entry))) (now (values .entry)) self (now (reply .entry)) r (now (values .exit)) (now (reply .exit)) ⌝ }
+        ensures { λ r. ⌜ Finishes (controlSpace (roomOf (now (table .entry)))) (now (values .entry)) self (now (reply .entry)) r (now (values .exit)) (now (reply .exit)) ⌝ }
     {
         if self.overrun {
             return put_nak(reply, 99);
@@ -144,9 +145,9 @@ impl Port {
         given: &[u8],
         reply: &mut [u8],
     ) -> Called
-        requires { ⌜ (sound (now table) ≡ true) × (now rows ≡ numbers) × (valuesSound (now table) (now values) ≡ true) ⌝ }
+        requires { ⌜ (sound (now table) ≡ true) × (now rows ≡ numbers) × (valuesSound (roomOf (now table)) (now values) ≡ true) ⌝ }
         requires { ⌜ (64 ≤ length (now reply)) × (self .len ≤ 64) ⌝ }
-        ensures { λ r. ⌜ Answers (now (table .entry)) (now (values .entry)) self (now (given .entry)) (now (reply .entry)) r (now (values .exit)) (now (reply .exit)) ⌝ }
+        ensures { λ r. ⌜ Answers (roomOf (now (table .entry))) (now (values .entry)) self (now (given .entry)) (now (reply .entry)) r (now (values .exit)) (now (reply .exit)) ⌝ }
     {
         let gathered = self.gather(given);
         let port = gathered.port;
@@ -170,7 +171,7 @@ impl Port {
 
     // A call: refused with the first number that applies in its order, or served.
     pub fn take(self, table: &[u8], values: &mut [i64], given: &[u8], reply: &mut [u8]) -> Called
-        ensures { λ r. ⌜ Answers (now (table .entry)) (now (values .entry)) self (now (given .entry)) (now (reply .entry)) r (now (values .exit)) (now (reply .exit)) ⌝ }
+        ensures { λ r. ⌜ Answers (roomOf (now (table .entry))) (now (values .entry)) self (now (given .entry)) (now (reply .entry)) r (now (values .exit)) (now (reply .exit)) ⌝ }
     {
         let rows = all_rows();
         let number = call_number(table, &rows, values, reply.len(), self.len);

@@ -3,6 +3,7 @@ use room::table::check;
 use values::values_number;
 ghost use mathlib.Core.Path.{_≡_};
 ghost use Rattle.catalogue.specs.Catalogue.{numbers};
+ghost use Rattle.values.specs.Room.{roomOf};
 ghost use Rattle.serial_port.specs.Refusal.{callNumber, claimNumber, replyNumber};
 
 // How many bytes a port may hold, and how many bytes a reply buffer must have.
@@ -39,7 +40,7 @@ pub(crate) fn call_number(
     claimed: usize,
 ) -> u8
     requires { ⌜ now rows ≡ numbers ⌝ }
-    ensures { λ r. ⌜ r ≡ callNumber (now (table .entry)) (now (values .entry)) room claimed ⌝ }
+    ensures { λ r. ⌜ r ≡ callNumber (roomOf (now (table .entry))) (now (values .entry)) room claimed ⌝ }
 {
     let of_table = check(table);
     if of_table != 0 {

@@ -5,6 +5,7 @@ ghost use mathlib.Core.Path.{_≡_};
 ghost use Prim.Native.Nat.{_≤_};
 ghost use Rattle.catalogue.specs.Catalogue.{numbers};
 ghost use Rattle.room.specs.Table.{sound};
+ghost use Rattle.values.specs.Room.{roomOf};
 ghost use Rattle.values.specs.Values.{valuesSound};
 ghost use Rattle.serial_port.specs.Stream.{Serves};
 
@@ -24,9 +25,9 @@ pub fn serve_all(
     given: &[u8],
     out: &mut [u8],
 ) -> Served
-    requires { ⌜ (sound (now table) ≡ true) × (now rows ≡ numbers) × (valuesSound (now table) (now values) ≡ true) ⌝ }
+    requires { ⌜ (sound (now table) ≡ true) × (now rows ≡ numbers) × (valuesSound (roomOf (now table)) (now values) ≡ true) ⌝ }
     requires { ⌜ port .len ≤ 64 ⌝ }
-    ensures { λ r. ⌜ Serves (now (table .entry)) (now (values .entry)) port (now (given .entry)) (now (out .entry)) r (now (values .exit)) (now (out .exit)) ⌝ }
+    ensures { λ r. ⌜ Serves (roomOf (now (table .entry))) (now (values .entry)) port (now (given .entry)) (now (out .entry)) r (now (values .exit)) (now (out .exit)) ⌝ }
 {
     let mut port = port;
     let mut at = 0;

@@ -15,13 +15,14 @@ use Rattle.catalogue.specs.Catalogue.{rowLimit}
 use Rattle.catalogue.specs.Row.{permitted}
 use Rattle.room.specs.Table.{recordLimit}
 use Rattle.values.specs.Parameters.{parameters}
+use Rattle.values.specs.Room.{Room, rowIn}
 use Rattle.values.specs.declared.parameter.Parameter.{Parameter}
 
--- each entry is permitted for its row
-unfoldable pub eachPermitted : List Parameter → List ℤ → Bool
-eachPermitted [] vs = true
-eachPermitted (p ∷ ps) [] = true
-eachPermitted (p ∷ ps) (v ∷ vs) = permitted (p .row) v && eachPermitted ps vs
+-- each entry is permitted in the room
+unfoldable pub eachPermitted : Room → List Parameter → List ℤ → Bool
+eachPermitted r [] vs = true
+eachPermitted r (p ∷ ps) [] = true
+eachPermitted r (p ∷ ps) (v ∷ vs) = permitted (rowIn r p) v && eachPermitted r ps vs
 
 -- two values are the same
 unfoldable pub equal : ℤ → ℤ → Bool
@@ -30,14 +31,14 @@ equal (pos m) (negsuc n) = false
 equal (negsuc m) (pos n) = false
 equal (negsuc m) (negsuc n) = eqb m n
 
--- as many values as parameters, and each is one that its row permits, whether or not a line may set it
-unfoldable pub valuesSound : List ℕ → List ℤ → Bool
-valuesSound t vs = eqb (length vs) (length (parameters t)) && eachPermitted (parameters t) vs
+-- as many values as parameters, and each is permitted in the room, whether or not a line may set it
+unfoldable pub valuesSound : Room → List ℤ → Bool
+valuesSound r vs = eqb (length vs) (length (parameters (r .table))) && eachPermitted r (parameters (r .table)) vs
 
 -- how many values a table may have
 unfoldable pub valueLimit : ℕ
 valueLimit = recordLimit * rowLimit
 
 -- 2 the values are wrong
-unfoldable pub valuesNumber : (table : List ℕ) → List ℤ → ℕ
-valuesNumber t vs = cond (valuesSound t vs) 0 2
+unfoldable pub valuesNumber : Room → List ℤ → ℕ
+valuesNumber r vs = cond (valuesSound r vs) 0 2

@@ -13,6 +13,7 @@ ghost use mathlib.Core.Bool.{true};
 ghost use mathlib.Core.Path.{_≡_};
 ghost use Rattle.catalogue.specs.Catalogue.{numbers};
 ghost use Rattle.room.specs.Table.{sound};
+ghost use Rattle.values.specs.Room.{roomOf};
 ghost use Rattle.values.specs.Values.{valuesNumber, valuesSound};
 
 // How many values a table may have.
@@ -21,7 +22,7 @@ pub const VALUES: usize = MODULES * ROWS;
 // Whether a list has one entry for each parameter, and each is permitted.
 fn are_sound(table: &[u8], rows: &[[i32; 8]; 50], values: &[i64]) -> bool
     requires { ⌜ (sound (now table) ≡ true) × (now rows ≡ numbers) ⌝ }
-    ensures { λ r. ⌜ r ≡ valuesSound (now (table .entry)) (now (values .entry)) ⌝ }
+    ensures { λ r. ⌜ r ≡ valuesSound (roomOf (now (table .entry))) (now (values .entry)) ⌝ }
 {
     // Only the proof needs the number of the records passed.
     let mut number: usize = 0;
@@ -47,7 +48,7 @@ fn are_sound(table: &[u8], rows: &[[i32; 8]; 50], values: &[i64]) -> bool
 // The number that a call on a list tells: 0 for a right one, and else its refusal's number.
 pub fn values_number(table: &[u8], rows: &[[i32; 8]; 50], values: &[i64]) -> u8
     requires { ⌜ (sound (now table) ≡ true) × (now rows ≡ numbers) ⌝ }
-    ensures { λ r. ⌜ r ≡ valuesNumber (now (table .entry)) (now (values .entry)) ⌝ }
+    ensures { λ r. ⌜ r ≡ valuesNumber (roomOf (now (table .entry))) (now (values .entry)) ⌝ }
 {
     if are_sound(table, rows, values) {
         return 0;

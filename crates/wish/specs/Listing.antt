@@ -22,6 +22,7 @@ use Rattle.room.specs.Refusal.{firstRefusal}
 use Rattle.room.specs.Table.{sound, tableNumber}
 use Rattle.room.specs.Label.{label, bearer}
 use Rattle.values.specs.Parameters.{parameters}
+use Rattle.values.specs.Room.{Room}
 use Rattle.values.specs.Values.{valuesNumber, valuesSound, equal}
 use Rattle.values.specs.declared.parameter.Parameter.{Parameter}
 use Rattle.room.specs.declared.label.Bearer.{Bearer}
@@ -45,7 +46,7 @@ changesOf (p ∷ ps) (v ∷ vs) (x ∷ xs) =
 
 -- the parameters whose target differs from the present value, in value order
 unfoldable pub changes : Wish → List Change
-changes w = changesOf (parameters (w .table)) (w .present) (target w)
+changes w = changesOf (parameters (w .room .table)) (w .present) (target w)
 
 -- one set line, with its 0D
 unfoldable pub lineOf : (table : List ℕ) → Change → List ℕ
@@ -75,8 +76,8 @@ unfoldable pub selectionNumber : (table selection : List ℕ) → ℕ
 selectionNumber t selection = cond (selectionRight t selection) 0 5
 
 -- 6 the wanted list is wrong
-unfoldable pub wantedNumber : (table selection : List ℕ) → (wanted : List ℤ) → ℕ
-wantedNumber t selection ws = cond (wantedRight t selection ws) 0 6
+unfoldable pub wantedNumber : Room → (selection : List ℕ) → (wanted : List ℤ) → ℕ
+wantedNumber r selection ws = cond (wantedRight r selection ws) 0 6
 
 -- 7 a wanted change is beyond reach
 unfoldable pub reachNumber : (table : List ℕ) → List Change → ℕ
@@ -89,8 +90,8 @@ spaceNumber t room cs = cond (leb (length (listing t cs)) room) 0 8
 -- what is tested before the list: 1 the table is not sound, 2 the values are wrong, then 5 and 6
 abbrev pub tests : Wish → List ℕ
 tests w =
-    tableNumber (w .table) ∷ valuesNumber (w .table) (w .present) ∷ selectionNumber (w .table) (w .selection) ∷
-    wantedNumber (w .table) (w .selection) (w .wanted) ∷ []
+    tableNumber (w .room .table) ∷ valuesNumber (w .room) (w .present) ∷ selectionNumber (w .room .table) (w .selection) ∷
+    wantedNumber (w .room) (w .selection) (w .wanted) ∷ []
 
 -- what is tested of the list: 7, then 8
 abbrev pub listTests : (table : List ℕ) → (room : ℕ) → List Change → List ℕ
@@ -105,14 +106,14 @@ listNumber t room cs = firstRefusal (listTests t room cs)
 
 -- the first that applies in the call's order, 0 where none does: 1, 2, 5 and 6, which are tested before the list, then 7 and 8
 unfoldable pub restoreNumber : Wish → (room : ℕ) → ℕ
-restoreNumber w room = firstRefusal (tests w ++ listTests (w .table) room (changes w))
+restoreNumber w room = firstRefusal (tests w ++ listTests (w .room .table) room (changes w))
 
 -- 1, 2, 5 and 6 do not apply
 pub record Admitted (w : Wish) : Type 0 where
-  pub table : sound (w .table) ≡ true
-  pub present : valuesSound (w .table) (w .present) ≡ true
-  pub selection : selectionRight (w .table) (w .selection) ≡ true
-  pub wanted : wantedRight (w .table) (w .selection) (w .wanted) ≡ true
+  pub table : sound (w .room .table) ≡ true
+  pub present : valuesSound (w .room) (w .present) ≡ true
+  pub selection : selectionRight (w .room .table) (w .selection) ≡ true
+  pub wanted : wantedRight (w .room) (w .selection) (w .wanted) ≡ true
 
 -- what the call tells, and what it leaves in the list buffer
 pub record Told : Type 0 where
@@ -129,4 +130,4 @@ tell t (suc n) buffer cs = record { number = suc n; bytes = 0; lines = 0; buffer
 
 -- the whole call
 unfoldable pub restore : Wish → (buffer : List ℕ) → Told
-restore w buffer = tell (w .table) (restoreNumber w (length buffer)) buffer (changes w)
+restore w buffer = tell (w .room .table) (restoreNumber w (length buffer)) buffer (changes w)

@@ -13,15 +13,20 @@ use Rattle.catalogue.specs.Row.{permitted}
 use Rattle.text.specs.Every.{every}
 use Rattle.room.specs.Table.{modules}
 use Rattle.values.specs.Parameters.{parameters}
+use Rattle.values.specs.Room.{Room, roomOf, rowIn}
 use Rattle.values.specs.declared.parameter.Parameter.{Parameter}
 use Rattle.values.specs.Values.{equal}
 
--- the table and the present values, the chosen modules and their wanted values
+-- the room and the present values, the chosen modules and their wanted values
 pub record Wish : Type 0 where
-  pub table : List ℕ
+  pub room : Room
   pub present : List ℤ
   pub selection : List ℕ
   pub wanted : List ℤ
+
+-- the wish of lent lists
+abbrev pub wishOf : (table : List ℕ) → (present : List ℤ) → (selection : List ℕ) → (wanted : List ℤ) → Wish
+wishOf t vs selection ws = record { room = roomOf t; present = vs; selection = selection; wanted = ws }
 
 -- one selection byte for each module: 1 chosen, 0 not
 unfoldable pub atMostOne : ℕ → Bool
@@ -34,15 +39,15 @@ selectionRight t selection = eqb (length selection) (length (modules t)) && ever
 unfoldable pub chosen : (selection : List ℕ) → Parameter → Bool
 chosen selection p = eqb (getD selection (p .owner .number) 0) 1
 
--- each chosen module's entry is permitted; an unchosen one's may be anything
-unfoldable pub chosenPermitted : (selection : List ℕ) → List Parameter → List ℤ → Bool
-chosenPermitted selection [] ws = true
-chosenPermitted selection (p ∷ ps) [] = true
-chosenPermitted selection (p ∷ ps) (w ∷ ws) = (not (chosen selection p) || permitted (p .row) w) && chosenPermitted selection ps ws
+-- each chosen module's entry is permitted in the room; an unchosen one's may be anything
+unfoldable pub chosenPermitted : Room → (selection : List ℕ) → List Parameter → List ℤ → Bool
+chosenPermitted r selection [] ws = true
+chosenPermitted r selection (p ∷ ps) [] = true
+chosenPermitted r selection (p ∷ ps) (w ∷ ws) = (not (chosen selection p) || permitted (rowIn r p) w) && chosenPermitted r selection ps ws
 
 -- the wanted list is as long as the value list, and only chosen modules' entries count
-unfoldable pub wantedRight : (table selection : List ℕ) → (wanted : List ℤ) → Bool
-wantedRight t selection ws = eqb (length ws) (length (parameters t)) && chosenPermitted selection (parameters t) ws
+unfoldable pub wantedRight : Room → (selection : List ℕ) → (wanted : List ℤ) → Bool
+wantedRight r selection ws = eqb (length ws) (length (parameters (r .table))) && chosenPermitted r selection (parameters (r .table)) ws
 
 -- what every parameter is to have: the wanted value in a chosen module, the present one in any other
 unfoldable pub targetOf : (selection : List ℕ) → List Parameter → (present wanted : List ℤ) → List ℤ
@@ -53,7 +58,7 @@ targetOf selection (p ∷ ps) (v ∷ vs) (w ∷ ws) = cond (chosen selection p) 
 
 -- the target list of a wish
 unfoldable pub target : Wish → List ℤ
-target w = targetOf (w .selection) (parameters (w .table)) (w .present) (w .wanted)
+target w = targetOf (w .selection) (parameters (w .room .table)) (w .present) (w .wanted)
 
 -- how many parameters of chosen modules differ from the wanted
 unfoldable pub differing : (selection : List ℕ) → List Parameter → (present wanted : List ℤ) → ℕ

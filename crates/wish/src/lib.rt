@@ -12,6 +12,7 @@ ghost use lib.ListN.{length};
 ghost use Rattle.catalogue.specs.Catalogue.{knownLayout, numbers, rowsOf};
 ghost use Rattle.room.specs.Table.{sound};
 ghost use Rattle.values.specs.Permit.{rowsPermit};
+ghost use Rattle.values.specs.Room.{roomOf};
 ghost use Rattle.wish.specs.Target.{selectionRight, wantedRight};
 
 // Whether there is one selection byte for each module, and each is 0 or 1.
@@ -49,7 +50,7 @@ fn module_right(rows: &[[i32; 8]; 50], selected: u8, layout: Layout, wanted: &[i
 // Whether the wanted list has one entry for each parameter, and each chosen module's entry is permitted.
 pub fn wanted_right(table: &[u8], rows: &[[i32; 8]; 50], selection: &[u8], wanted: &[i64]) -> bool
     requires { ⌜ (sound (now table) ≡ true) × (now rows ≡ numbers) × (selectionRight (now table) (now selection) ≡ true) ⌝ }
-    ensures { λ r. ⌜ r ≡ wantedRight (now (table .entry)) (now (selection .entry)) (now (wanted .entry)) ⌝ }
+    ensures { λ r. ⌜ r ≡ wantedRight (roomOf (now (table .entry))) (now (selection .entry)) (now (wanted .entry)) ⌝ }
 {
     let mut number = 0;
     let mut place = 0;

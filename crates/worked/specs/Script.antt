@@ -14,6 +14,7 @@ use lib.ListN.{length, take, drop}
 use Rattle.text.specs.Cut.{indexOf}
 use Rattle.room.specs.Label.{same}
 use Rattle.room.specs.Table.{sound}
+use Rattle.values.specs.Room.{Room, roomOf}
 use Rattle.values.specs.Starts.{starts}
 use Rattle.serial_port.specs.Server.{Server, controlSpace}
 use Rattle.serial_port.specs.Call.{step}
@@ -61,8 +62,8 @@ playFrom (suc lines) server vs v right at (b ∷ bs) =
     (record { right = right; at = at; values = s .values })
 
 -- the whole script, from a fresh port on
-unfoldable pub outcome : (table : List ℕ) → List ℤ → (script : List ℕ) → Outcome
-outcome t vs script = playFrom (length script) (controlSpace t) vs fresh 0 0 script
+unfoldable pub outcome : Room → List ℤ → (script : List ℕ) → Outcome
+outcome r vs script = playFrom (length script) (controlSpace r) vs fresh 0 0 script
 
 -- its two counts
 unfoldable pub counted : Outcome → Tally
@@ -70,7 +71,7 @@ counted o = record { right = o .right; at = o .at }
 
 -- the tally of a script, from the table's start values on; on a table that is not sound no line is played
 unfoldable pub tally : (table script : List ℕ) → Tally
-tally t script = cond (sound t) (counted (outcome t (starts t) script)) (record { right = 0; at = 0 })
+tally t script = cond (sound t) (counted (outcome (roomOf t) (starts t) script)) (record { right = 0; at = 0 })
 
 -- what the code tells of a line, and of a script, with the values as they are afterwards
 unfoldable pub turned : Played → List ℤ → Turn
@@ -80,5 +81,5 @@ unfoldable pub told : Tally → List ℤ → Outcome
 told r vs = record { right = r .right; at = r .at; values = vs }
 
 -- the promise of playing a line; left open, as for a call of the port, is what the port stores besides what it is seen as
-pub data Plays (t : List ℕ) (vs : List ℤ) (p : Port) (script : List ℕ) (r : Played) (vs′ : List ℤ) : Type 0 where
-  plays : (line : turned r vs′ ≡ turn (controlSpace t) vs (view p) script) → (few : r .port .len ≤ 64) → Plays t vs p script r vs′
+pub data Plays (r : Room) (vs : List ℤ) (p : Port) (script : List ℕ) (g : Played) (vs′ : List ℤ) : Type 0 where
+  plays : (line : turned g vs′ ≡ turn (controlSpace r) vs (view p) script) → (few : g .port .len ≤ 64) → Plays r vs p script g vs′

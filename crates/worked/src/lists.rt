@@ -3,6 +3,7 @@ use crate::compare::same_bytes;
 use restore::Restored;
 use restore::restore;
 ghost use mathlib.Core.Path.{_≡_};
+ghost use Rattle.wish.specs.Target.{wishOf};
 ghost use Rattle.worked.specs.Restored.{Compares, listRight, told};
 
 // Whether a restore call that left its list in this buffer told this number, and this list with so many lines.
@@ -36,7 +37,7 @@ pub(crate) fn list_right(
     lines: usize,
     list: &[u8],
 ) -> bool
-    ensures { λ r. ⌜ Compares (record { table = now (table .entry); present = now (present .entry); selection = now (selection .entry); wanted = now (wanted .entry) }) (now (buffer .entry)) number lines (now (list .entry)) r (now (buffer .exit)) ⌝ }
+    ensures { λ r. ⌜ Compares (wishOf (now (table .entry)) (now (present .entry)) (now (selection .entry)) (now (wanted .entry))) (now (buffer .entry)) number lines (now (list .entry)) r (now (buffer .exit)) ⌝ }
 {
     let restored = restore(table, present, selection, wanted, buffer);
     told_right(restored, buffer, number, lines, list)

@@ -11,6 +11,7 @@ ghost use mathlib.Core.Path.{_≡_};
 ghost use Prim.Native.Nat.{_≤_};
 ghost use lib.ListN.{length};
 ghost use Rattle.room.specs.Table.{sound};
+ghost use Rattle.values.specs.Room.{roomOf};
 ghost use Rattle.values.specs.Values.{valueLimit, valuesSound};
 ghost use Rattle.worked.specs.Script.{Plays, outcome, tally, told};
 ghost use Rattle.worked.specs.Script.{through as Script·through};
@@ -41,8 +42,8 @@ fn through(s: &[u8]) -> &[u8]
 
 // Plays the first line of a script.
 fn play_line(table: &[u8], values: &mut [i64], port: Port, script: &[u8]) -> Played
-    requires { ⌜ (sound (now table) ≡ true) × (valuesSound (now table) (now values) ≡ true) × (port .len ≤ 64) ⌝ }
-    ensures { λ r. ⌜ Plays (now (table .entry)) (now (values .entry)) port (now (script .entry)) r (now (values .exit)) ⌝ }
+    requires { ⌜ (sound (now table) ≡ true) × (valuesSound (roomOf (now table)) (now values) ≡ true) × (port .len ≤ 64) ⌝ }
+    ensures { λ r. ⌜ Plays (roomOf (now (table .entry))) (now (values .entry)) port (now (script .entry)) r (now (values .exit)) ⌝ }
 {
     let mut reply = [0u8; Port::REPLY];
     let called = port.take(table, values, script, &mut reply);
@@ -60,8 +61,8 @@ fn play_line(table: &[u8], values: &mut [i64], port: Port, script: &[u8]) -> Pla
 
 // Plays a script line by line, up to the first wrong answer.
 fn play_lines(table: &[u8], values: &mut [i64], script: &[u8]) -> Tally
-    requires { ⌜ (sound (now table) ≡ true) × (valuesSound (now table) (now values) ≡ true) ⌝ }
-    ensures { λ r. ⌜ told r (now (values .exit)) ≡ outcome (now (table .entry)) (now (values .entry)) (now (script .entry)) ⌝ }
+    requires { ⌜ (sound (now table) ≡ true) × (valuesSound (roomOf (now table)) (now values) ≡ true) ⌝ }
+    ensures { λ r. ⌜ told r (now (values .exit)) ≡ outcome (roomOf (now (table .entry))) (now (values .entry)) (now (script .entry)) ⌝ }
 {
     let mut port = Port::fresh();
     let mut at = 0;

@@ -6,6 +6,7 @@ use native.Mathlib.Omega.{arith}
 use lib.IntN.{ℤ}
 use lib.ListN.{length}
 use Rattle.syntax.specs.Shape.{lineLimit}
+use Rattle.values.specs.Room.{Room}
 use Rattle.serial_port.specs.Port.{View, view}
 use Rattle.serial_port.specs.Call.{Answers, step}
 use Rattle.serial_port.specs.Call.Telling.{call-field, number-by, refused-consumed, refused-sent, nothing-consumed, nothing-sent, seen-by, few-by}
@@ -36,43 +37,43 @@ stored q v s few = record { seen = rw (bytes-say q) s; few = rw (bytes-claim q) 
 
 -- ---- the call
 
-module _ (t : List ℕ) (vs : List ℤ) (port given reply : List ℕ) (p : Port) (c : Called) (vs′ : List ℤ) (reply′ : List ℕ) (e : p ≡ portOf port)
-    (a : Answers t vs p given reply c vs′ reply′) where
-  made : Answers t vs (portOf port) given reply c vs′ reply′
+module _ (r : Room) (vs : List ℤ) (port given reply : List ℕ) (p : Port) (c : Called) (vs′ : List ℤ) (reply′ : List ℕ) (e : p ≡ portOf port)
+    (a : Answers r vs p given reply c vs′ reply′) where
+  made : Answers r vs (portOf port) given reply c vs′ reply′
   made = rw e at a
 
-  answered : portTells (c .number) (c .consumed ∷ c .sent ∷ []) vs′ reply′ ≡ portAnswer t vs port given reply
+  answered : portTells (c .number) (c .consumed ∷ c .sent ∷ []) vs′ reply′ ≡ portAnswer r vs port given reply
   unfolding portAnswer counted
-  answered = call-field t vs (portOf port) given reply made counted
+  answered = call-field r vs (portOf port) given reply made counted
 
-  number-is : callNumber t vs (length reply) (portOf port .len) ≡ c .number
+  number-is : callNumber r vs (length reply) (portOf port .len) ≡ c .number
   number-is = sym (number-by made)
 
   -- a call that is refused, or given no bytes, counts zero
-  pub call-refused : (x y : ℕ) → (c .number ≡ 0 → ⊥) → x ≡ 0 → y ≡ 0 → PortCalled t vs port given reply (c .number) vs′ port reply′ (x ∷ y ∷ [])
+  pub call-refused : (x y : ℕ) → (c .number ≡ 0 → ⊥) → x ≡ 0 → y ≡ 0 → PortCalled r vs port given reply (c .number) vs′ port reply′ (x ∷ y ∷ [])
   call-refused x y h u v =
       called
       (rw (u ∙ sym (refused-consumed a h), v ∙ sym (refused-sent a h)) answered)
-      (rw number-is (left-refused (c .number) given port (step (controlSpace t) vs (view (portOf port)) given .port) h))
+      (rw number-is (left-refused (c .number) given port (step (controlSpace r) vs (view (portOf port)) given .port) h))
 
   module _ (z : c .number ≡ 0) where
-    answered-served : portTells 0 (c .consumed ∷ c .sent ∷ []) vs′ reply′ ≡ portAnswer t vs port given reply
+    answered-served : portTells 0 (c .consumed ∷ c .sent ∷ []) vs′ reply′ ≡ portAnswer r vs port given reply
     answered-served = rw z at answered
 
     pub call-few : c .port .len ≤ 64
     unfolding lineLimit
     call-few = few-by made z
 
-    pub call-nothing : (x y : ℕ) → length given ≡ 0 → x ≡ 0 → y ≡ 0 → PortCalled t vs port given reply 0 vs′ port reply′ (x ∷ y ∷ [])
+    pub call-nothing : (x y : ℕ) → length given ≡ 0 → x ≡ 0 → y ≡ 0 → PortCalled r vs port given reply 0 vs′ port reply′ (x ∷ y ∷ [])
     call-nothing x y h u v =
         called
         (rw (u ∙ sym (nothing-consumed a z h), v ∙ sym (nothing-sent a z h)) answered-served)
-        (left-nothing (callNumber t vs (length reply) (portOf port .len)) given port (step (controlSpace t) vs (view (portOf port)) given .port) h)
+        (left-nothing (callNumber r vs (length reply) (portOf port .len)) given port (step (controlSpace r) vs (view (portOf port)) given .port) h)
 
     pub call-stored : (port′ : List ℕ) → (length given ≡ 0 → ⊥) → port′ ≡ bytesOf (c .port)
-        → PortCalled t vs port given reply 0 vs′ port′ reply′ (c .consumed ∷ c .sent ∷ [])
+        → PortCalled r vs port given reply 0 vs′ port′ reply′ (c .consumed ∷ c .sent ∷ [])
     call-stored port′ h b =
-        let v = step (controlSpace t) vs (view (portOf port)) given .port in
+        let v = step (controlSpace r) vs (view (portOf port)) given .port in
         called answered-served (rw (number-is ∙ z, b) (left-stored given port v (bytesOf (c .port)) h (stored (c .port) v (seen-by made z) (few-by made z))))
 
 pub ruleset calling = (call-refused, call-few, call-nothing, call-stored, refused-consumed, refused-sent, nothing-consumed, nothing-sent)

@@ -9,6 +9,8 @@ use lib.ListN.{length, getD}
 use Rattle.room.specs.Label.{label, bearer}
 use Rattle.values.specs.Parameters.{place}
 use Rattle.room.specs.Table.{sound}
+use Rattle.values.specs.Room.{Room}
+use Rattle.values.specs.Room.Laws.{row-in-permits}
 use Rattle.values.specs.Values.{valuesSound}
 use Rattle.values.specs.Values.Laws.{value-permitted}
 use Rattle.room.specs.declared.label.Bearer.the-variants.{Only}
@@ -27,22 +29,23 @@ use Rattle.line.specs.declared.meaning.Meaning.the-variants.{Get}
 pub gets-label : (t line : List ℕ) (p : Parameter) → sound t ≡ true → Gets t line p → bearer t (label t (p .owner)) ≡ Only (p .owner)
 gets-label t line p s h = names-label t (part line (h .quote + 1) (h .close)) (part line (h .close + 1) (length line)) p s (h .names)
 
-module _ (t : List ℕ) (vs : List ℤ) (line : List ℕ) (s : sound t ≡ true) (v : valuesSound t vs ≡ true) where
-  gets-told : (p : Parameter) → Gets t line p → Told t p (getD vs (place p) (pos 0)) (getReply t p (getD vs (place p) (pos 0)))
+module _ (r : Room) (vs : List ℤ) (line : List ℕ) (s : sound (r .table) ≡ true) (v : valuesSound r vs ≡ true) where
+  gets-told : (p : Parameter) → Gets (r .table) line p → Told (r .table) p (getD vs (place p) (pos 0)) (getReply (r .table) p (getD vs (place p) (pos 0)))
   gets-told p g =
-      let e = gets-place t line p s g in
-      reply-told t (place p) p (getD vs (place p) (pos 0)) s e (gets-label t line p s g) (value-permitted t vs (place p) p v e)
+      let e = gets-place (r .table) line p s g in
+      reply-told (r .table) (place p) p (getD vs (place p) (pos 0)) s e (gets-label (r .table) line p s g)
+      (row-in-permits r p (getD vs (place p) (pos 0)) (value-permitted r vs (place p) p v e))
 
   -- the answer to a get line names its parameter and tells the present value
-  pub get-answer : (p : Parameter) → meaning t vs line ≡ Get p → Told t p (getD vs (place p) (pos 0)) (answer t vs line .reply)
+  pub get-answer : (p : Parameter) → meaning r vs line ≡ Get p → Told (r .table) p (getD vs (place p) (pos 0)) (answer r vs line .reply)
   unfolding act
-  get-answer p e = rw (answered t vs line (Get p) e) (gets-told p (get-told t vs line p e))
+  get-answer p e = rw (answered r vs line (Get p) e) (gets-told p (get-told r vs line p e))
 
   -- no reply is longer than 51 bytes
-  pub reply-limit : length (answer t vs line .reply) ≤ 51
-  reply-limit = go (effect t vs line s)
+  pub reply-limit : length (answer r vs line .reply) ≤ 51
+  reply-limit = go (effect r vs line s)
     where
-      go : Effect t vs line → length (answer t vs line .reply) ≤ 51
+      go : Effect r vs line → length (answer r vs line .reply) ≤ 51
       go (refused n m e) = rw e (omega (arith, nak-length n))
       go (told p m g l e) = rw e (gets-told p g .short)
       go (put p x m g l e) = rw e (omega (arith, ack-length))

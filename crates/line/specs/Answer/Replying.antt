@@ -16,6 +16,7 @@ use Rattle.room.specs.Label.Laws.{bearer-found}
 use Rattle.values.specs.Parameters.{place}
 use Rattle.values.specs.Parameters.First.{place-is}
 use Rattle.room.specs.Table.{sound}
+use Rattle.values.specs.Room.{Room, roomOf}
 use Rattle.values.specs.Values.{valuesSound}
 use Rattle.values.specs.Values.Laws.{value-inside}
 use Rattle.room.specs.declared.label.Bearer.{Bearer}
@@ -98,56 +99,60 @@ unfolding putOf
 small-put p (value.Value x) = tt
 small-put p value.Wrong = lit< tt
 
-small-set : (vs : List ℤ) (text : List ℕ) (g : Target) → SmallTarget g → Small (setOf vs text g)
+small-set : (r : Room) (vs : List ℤ) (text : List ℕ) (g : Target) → SmallTarget g → Small (setOf r vs text g)
 unfolding setOf
-small-set vs text (target p) h = small-put p _
-small-set vs text (code n) h = h
+small-set r vs text (target p) h = small-put p _
+small-set r vs text (code n) h = h
 
-small-shape : (vs : List ℤ) (line : List ℕ) (b : Bearer) (s : Shape) → Small (ofShape vs line b s)
+small-shape : (r : Room) (vs : List ℤ) (line : List ℕ) (b : Bearer) (s : Shape) → Small (ofShape r vs line b s)
 unfolding ofShape
-small-shape vs line b shape.Malformed = lit< tt
-small-shape vs line b (shape.Get o c) = small-get _ (in-room b _)
-small-shape vs line b (shape.Set o c e) = small-set vs _ _ (in-room b _)
+small-shape r vs line b shape.Malformed = lit< tt
+small-shape r vs line b (shape.Get o c) = small-get _ (in-room b _)
+small-shape r vs line b (shape.Set o c e) = small-set r vs _ _ (in-room b _)
 
-module _ (t : List ℕ) (vs : List ℤ) (line : List ℕ) (b : Bearer) (f : Shape) (l : f ≡ shape line) (k : b ≡ bearerOf t line f) (m : Meaning) (d : m ≡ ofShape vs line b f) where
-  e : m ≡ meaning t vs line
+module _ (r : Room) (vs : List ℤ) (line : List ℕ) (b : Bearer) (f : Shape) (l : f ≡ shape line) (k : b ≡ bearerOf (r .table) line f) (m : Meaning) (d : m ≡ ofShape r vs line b f) where
+  e : m ≡ meaning r vs line
   unfolding meaning
   e = rw (← l, ← k) d
 
   pub code-below : (n : ℕ) → m ≡ Code n → n < 100
-  code-below n h = subst Small (sym d ∙ h) (small-shape vs line b f)
+  code-below n h = subst Small (sym d ∙ h) (small-shape r vs line b f)
 
-  pub get-tellable : (p : Parameter) → m ≡ Get p → sound t ≡ true → valuesSound t vs ≡ true → Tellable t vs p
+  gets-tellable : (p : Parameter) → m ≡ Get p → sound (r .table) ≡ true → valuesSound r vs ≡ true → Tellable (r .table) vs p
   unfolding act
-  get-tellable p h s v =
+  gets-tellable p h s v =
       let told = sym e ∙ h in
-      let g = get-told t vs line p told in
+      let g = get-told r vs line p told in
       record {
-        within = rw (place-is p) at (value-inside t vs (place p) p v (gets-place t line p s g));
-        room = bearer-found t _ (p .owner) s (gets-label t line p s g) .room;
-        short = omega (arith, reply-limit t vs line s v, ap (λ a. length (a .reply)) (answered t vs line (Get p) told));
+        within = rw (place-is p) at (value-inside r vs (place p) p v (gets-place (r .table) line p s g));
+        room = bearer-found (r .table) _ (p .owner) s (gets-label (r .table) line p s g) .room;
+        short = omega (arith, reply-limit r vs line s v, ap (λ a. length (a .reply)) (answered r vs line (Get p) told));
       }
 
-  pub put-within : (p : Parameter) (x : ℤ) → m ≡ Put p x → sound t ≡ true → valuesSound t vs ≡ true → p .owner .first + p .number < length vs
-  put-within p x h s v = rw (place-is p) at (value-inside t vs (place p) p v (puts-place t vs line p x s (put-told t vs line p x (sym e ∙ h))))
+  pub put-within : (p : Parameter) (x : ℤ) → m ≡ Put p x → sound (r .table) ≡ true → valuesSound r vs ≡ true → p .owner .first + p .number < length vs
+  put-within p x h s v = rw (place-is p) at (value-inside r vs (place p) p v (puts-place r vs line p x s (put-told r vs line p x (sym e ∙ h))))
 
-  module _ (buffer : List ℕ) (r : ℕ) (buffer′ : List ℕ) where
-    pub answers-code : (n : ℕ) → m ≡ Code n → Wrote buffer 0 (nak n) r buffer′ → Answers t vs line buffer r vs buffer′
+  module _ (buffer : List ℕ) (sent : ℕ) (buffer′ : List ℕ) where
+    pub answers-code : (n : ℕ) → m ≡ Code n → Wrote buffer 0 (nak n) sent buffer′ → Answers r vs line buffer sent vs buffer′
     unfolding act
     answers-code n h w =
-        let a = answered t vs line (Code n) (sym e ∙ h) in
+        let a = answered r vs line (Code n) (sym e ∙ h) in
         answers (rw a w) (sym (ap (λ b. b .values) a))
 
-    pub answers-get : (p : Parameter) → m ≡ Get p → Wrote buffer 0 (getReply t p (getD vs (place p) (pos 0))) r buffer′ → Answers t vs line buffer r vs buffer′
+    pub answers-get : (p : Parameter) → m ≡ Get p → Wrote buffer 0 (getReply (r .table) p (getD vs (place p) (pos 0))) sent buffer′ → Answers r vs line buffer sent vs buffer′
     unfolding act
     answers-get p h w =
-        let a = answered t vs line (Get p) (sym e ∙ h) in
+        let a = answered r vs line (Get p) (sym e ∙ h) in
         answers (rw a w) (sym (ap (λ b. b .values) a))
 
-    pub answers-put : (p : Parameter) (x : ℤ) (vs′ : List ℤ) → m ≡ Put p x → Wrote buffer 0 ack r buffer′ → vs′ ≡ set vs (place p) x → Answers t vs line buffer r vs′ buffer′
+    pub answers-put : (p : Parameter) (x : ℤ) (vs′ : List ℤ) → m ≡ Put p x → Wrote buffer 0 ack sent buffer′ → vs′ ≡ set vs (place p) x → Answers r vs line buffer sent vs′ buffer′
     unfolding act
     answers-put p x vs′ h w k =
-        let a = answered t vs line (Put p x) (sym e ∙ h) in
+        let a = answered r vs line (Put p x) (sym e ∙ h) in
         answers (rw a w) (k ∙ sym (ap (λ b. b .values) a))
+
+pub get-tellable : (t : List ℕ) (vs : List ℤ) (line : List ℕ) (b : Bearer) (f : Shape) (m : Meaning) (p : Parameter) → f ≡ shape line → b ≡ bearerOf t line f
+    → m ≡ ofShape (roomOf t) vs line b f → m ≡ Get p → sound t ≡ true → valuesSound (roomOf t) vs ≡ true → Tellable t vs p
+get-tellable t vs line b f m p l k d h s v = gets-tellable (roomOf t) vs line b f l k m d p h s v
 
 pub ruleset answering = (bearer-seated, code-below, get-tellable, put-within, answers-code, answers-get, answers-put)

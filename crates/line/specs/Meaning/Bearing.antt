@@ -12,6 +12,8 @@ use Rattle.values.specs.Parameters.{parameterAt, parameters}
 use Rattle.values.specs.Parameters.Each.{parameter-fits}
 use Rattle.values.specs.Parameters.First.{place-is}
 use Rattle.room.specs.Table.{sound}
+use Rattle.values.specs.Room.{Room}
+use Rattle.values.specs.Room.Laws.{row-in-fits}
 use Rattle.values.specs.Values.{valuesSound}
 use Rattle.values.specs.Values.Laws.{value-inside, value-permitted}
 use Rattle.room.specs.declared.label.Bearer.{Bearer}
@@ -46,33 +48,35 @@ quoted-borne t line o c b h = h ∙ rw (part-is line (o + 1) c)
 pub ruleset bearer-rules = (quoted-borne, places, no-label, get-borne, set-borne)
 
 -- what is named has its place in the values
-named-held : (t label s : List ℕ) (vs : List ℤ) (p : Parameter) → inRoom (bearer t label) (readIndices s) ≡ target p → sound t ≡ true
-    → valuesSound t vs ≡ true → Holds vs p
-named-held t label s vs p e sd vd =
+named-held : (r : Room) (label s : List ℕ) (vs : List ℤ) (p : Parameter) → inRoom (bearer (r .table) label) (readIndices s) ≡ target p
+    → sound (r .table) ≡ true → valuesSound r vs ≡ true → Holds r vs p
+named-held r label s vs p e sd vd =
+    let t = r .table in
     let k = p .owner .first + p .number in
-    let at : parameterAt (parameters t) k ≡ At p = rw (place-is p) at (names-place t label s p sd (names-told t label s p e)) in
-    record { within = value-inside t vs k p vd at; fits = parameter-fits t k p at; permits = value-permitted t vs k p vd at }
+    let at : parameterAt (parameters (r .table)) k ≡ At p = rw (place-is p) at (names-place t label s p sd (names-told t label s p e)) in
+    record { within = value-inside r vs k p vd at; fits = row-in-fits r p (parameter-fits t k p at); permits = value-permitted r vs k p vd at }
 
 -- whatever bears a label of a sound table has its values in a sound list
-pub bearer-seated : (t line : List ℕ) (vs : List ℤ) (b : Bearer) (s : Shape) → b ≡ bearerOf t line s → sound t ≡ true → valuesSound t vs ≡ true → Seated vs b
+pub bearer-seated : (r : Room) (line : List ℕ) (vs : List ℤ) (b : Bearer) (s : Shape) → b ≡ bearerOf (r .table) line s → sound (r .table) ≡ true → valuesSound r vs ≡ true
+    → Seated r vs b
 unfolding bearerOf inRoom
-bearer-seated t line vs b s e sd vd = go s e
+bearer-seated r line vs b s e sd vd = go s e
   where
-    none : b ≡ NotOne → Seated vs b
+    none : b ≡ NotOne → Seated r vs b
     none h =
         record {
           known = λ m k. absurd (let z : _≡_ {A = ℕ} 0 1 = cc in omega arith);
           holds = λ s p k. absurd (let w : code 1 ≡ target p = rw h at k in let z : _≡_ {A = ℕ} 0 1 = cc in omega arith);
         }
 
-    one : (text : List ℕ) → b ≡ bearer t text → Seated vs b
+    one : (text : List ℕ) → b ≡ bearer (r .table) text → Seated r vs b
     one text h =
         record {
-          known = λ m k. bearer-found t text m sd (sym h ∙ k) .known;
-          holds = λ s p k. named-held t text s vs p (rw h at k) sd vd;
+          known = λ m k. bearer-found (r .table) text m sd (sym h ∙ k) .known;
+          holds = λ s p k. named-held r text s vs p (rw h at k) sd vd;
         }
 
-    go : (s : Shape) → b ≡ bearerOf t line s → Seated vs b
+    go : (s : Shape) → b ≡ bearerOf (r .table) line s → Seated r vs b
     go shape.Malformed h = none h
     go (shape.Get o c) h = one (part line (o + 1) c) h
     go (shape.Set o c q) h = one (part line (o + 1) c) h

@@ -13,6 +13,7 @@ use Rattle.values.specs.Parameters.First.{place-is}
 use Rattle.values.specs.Parameters.Places.{at-module}
 use Rattle.values.specs.Parameters.Named.{named-told}
 use Rattle.room.specs.Table.{sound}
+use Rattle.values.specs.Room.{Room, rowIn}
 use Rattle.catalogue.specs.declared.row.Indices.{Indices}
 use Rattle.room.specs.declared.label.Bearer.{Bearer}
 use Rattle.room.specs.declared.label.Bearer.the-variants.{Only, NotOne}
@@ -83,13 +84,13 @@ names-label t text indices p s h = ap (bearer t) (bearer-found t text (p .owner)
 -- ---- lines that put a value
 
 -- a set line: its places, the parameter named between them, and the value that the text says
-pub record Puts (t : List ℕ) (vs : List ℤ) (line : List ℕ) (p : Parameter) (x : ℤ) : Type 0 where
+pub record Puts (r : Room) (vs : List ℤ) (line : List ℕ) (p : Parameter) (x : ℤ) : Type 0 where
   pub quote : ℕ
   pub close : ℕ
   pub equal : ℕ
   pub shaped : shape line ≡ shape.Set quote close equal
-  pub names : Names t (part line (quote + 1) close) (part line (close + 1) equal) p
-  pub valued : Valued (p .row) (getD vs (place p) (pos 0)) (part line (equal + 1) (length line)) x
+  pub names : Names (r .table) (part line (quote + 1) close) (part line (close + 1) equal) p
+  pub valued : Valued (rowIn r p) (getD vs (place p) (pos 0)) (part line (equal + 1) (length line)) x
 
 -- a get line
 pub record Gets (t line : List ℕ) (p : Parameter) : Type 0 where
@@ -110,72 +111,72 @@ get-puts p x (target q) h = absurd (let z : _≡_ {A = ℕ} 0 1 = cc in omega ar
 get-puts p x (code n) h = no-put p x n h
 
 -- a set line's target and text
-record SetTold (vs : List ℤ) (text : List ℕ) (g : Target) (p : Parameter) (x : ℤ) : Type 0 where
+record SetTold (r : Room) (vs : List ℤ) (text : List ℕ) (g : Target) (p : Parameter) (x : ℤ) : Type 0 where
   aimed : g ≡ target p
-  valued : Valued (p .row) (getD vs (place p) (pos 0)) text x
+  valued : Valued (rowIn r p) (getD vs (place p) (pos 0)) text x
 
-set-told : (vs : List ℤ) (text : List ℕ) (g : Target) (p : Parameter) (x : ℤ) → setOf vs text g ≡ Put p x → SetTold vs text g p x
+set-told : (r : Room) (vs : List ℤ) (text : List ℕ) (g : Target) (p : Parameter) (x : ℤ) → setOf r vs text g ≡ Put p x → SetTold r vs text g p x
 unfolding setOf putOf
-set-told vs text (target q) p x h = go (readValue (q .row) (getD vs (place q) (pos 0)) text) refl h
+set-told r vs text (target q) p x h = go (readValue (rowIn r q) (getD vs (place q) (pos 0)) text) refl h
   where
-    go : (v : ValueText) → readValue (q .row) (getD vs (place q) (pos 0)) text ≡ v → putOf q v ≡ Put p x → SetTold vs text (target q) p x
+    go : (v : ValueText) → readValue (rowIn r q) (getD vs (place q) (pos 0)) text ≡ v → putOf q v ≡ Put p x → SetTold r vs text (target q) p x
     go (value.Value y) e h =
         let s : q ≡ p = cc in
         let z : y ≡ x = cc in
-        let r : readValue (p .row) (getD vs (place p) (pos 0)) text ≡ value.Value x = cc in
-        record { aimed = ap target s; valued = value-told (p .row) (getD vs (place p) (pos 0)) text x r }
+        let v : readValue (rowIn r p) (getD vs (place p) (pos 0)) text ≡ value.Value x = cc in
+        record { aimed = ap target s; valued = value-told (rowIn r p) (getD vs (place p) (pos 0)) text x v }
     go value.Wrong e h = no-put p x 3 h
-set-told vs text (code n) p x h = no-put p x n h
+set-told r vs text (code n) p x h = no-put p x n h
 
-pub put-told : (t : List ℕ) (vs : List ℤ) (line : List ℕ) (p : Parameter) (x : ℤ) → meaning t vs line ≡ Put p x → Puts t vs line p x
+pub put-told : (r : Room) (vs : List ℤ) (line : List ℕ) (p : Parameter) (x : ℤ) → meaning r vs line ≡ Put p x → Puts r vs line p x
 unfolding meaning ofShape bearerOf
-put-told t vs line p x h = go (shape line) refl h
+put-told r vs line p x h = go (shape line) refl h
   where
-    go : (s : Shape) → shape line ≡ s → ofShape vs line (bearerOf t line s) s ≡ Put p x → Puts t vs line p x
+    go : (s : Shape) → shape line ≡ s → ofShape r vs line (bearerOf (r .table) line s) s ≡ Put p x → Puts r vs line p x
     go shape.Malformed e h = no-put p x 99 h
-    go (shape.Get o c) e h = get-puts p x (inRoom (bearer t (part line (o + 1) c)) (readIndices (part line (c + 1) (length line)))) h
+    go (shape.Get o c) e h = get-puts p x (inRoom (bearer (r .table) (part line (o + 1) c)) (readIndices (part line (c + 1) (length line)))) h
     go (shape.Set o c e) s h =
-        let g = set-told vs (part line (e + 1) (length line)) (inRoom (bearer t (part line (o + 1) c)) (readIndices (part line (c + 1) e))) p x h in
+        let g = set-told r vs (part line (e + 1) (length line)) (inRoom (bearer (r .table) (part line (o + 1) c)) (readIndices (part line (c + 1) e))) p x h in
         record {
           quote = o;
           close = c;
           equal = e;
           shaped = s;
-          names = names-told t (part line (o + 1) c) (part line (c + 1) e) p (g .aimed);
+          names = names-told (r .table) (part line (o + 1) c) (part line (c + 1) e) p (g .aimed);
           valued = g .valued;
         }
 
-pub puts-back : (t : List ℕ) (vs : List ℤ) (line : List ℕ) (p : Parameter) (x : ℤ) → Puts t vs line p x → meaning t vs line ≡ Put p x
+pub puts-back : (r : Room) (vs : List ℤ) (line : List ℕ) (p : Parameter) (x : ℤ) → Puts r vs line p x → meaning r vs line ≡ Put p x
 unfolding meaning ofShape bearerOf setOf putOf
-puts-back t vs line p x h =
+puts-back r vs line p x h =
     rw (
       h .shaped,
-      names-back t (part line (h .quote + 1) (h .close)) (part line (h .close + 1) (h .equal)) p (h .names),
-      value-back (p .row) (getD vs (place p) (pos 0)) (part line (h .equal + 1) (length line)) x (h .valued),
+      names-back (r .table) (part line (h .quote + 1) (h .close)) (part line (h .close + 1) (h .equal)) p (h .names),
+      value-back (rowIn r p) (getD vs (place p) (pos 0)) (part line (h .equal + 1) (length line)) x (h .valued),
     )
 
-set-gets : (p : Parameter) (vs : List ℤ) (text : List ℕ) (g : Target) → setOf vs text g ≡ Get p → ⊥
+set-gets : (r : Room) (p : Parameter) (vs : List ℤ) (text : List ℕ) (g : Target) → setOf r vs text g ≡ Get p → ⊥
 unfolding setOf putOf
-set-gets p vs text (target q) h = go (readValue (q .row) (getD vs (place q) (pos 0)) text) h
+set-gets r p vs text (target q) h = go (readValue (rowIn r q) (getD vs (place q) (pos 0)) text) h
   where
     go : (v : ValueText) → putOf q v ≡ Get p → ⊥
     go (value.Value y) h = let z : _≡_ {A = ℕ} 0 1 = cc in omega arith
     go value.Wrong h = no-get p 3 h
-set-gets p vs text (code n) h = no-get p n h
+set-gets r p vs text (code n) h = no-get p n h
 
 get-aims : (p : Parameter) (g : Target) → getOf g ≡ Get p → g ≡ target p
 unfolding getOf
 get-aims p (target q) h = let s : q ≡ p = cc in ap target s
 get-aims p (code n) h = no-get p n h
 
-pub get-told : (t : List ℕ) (vs : List ℤ) (line : List ℕ) (p : Parameter) → meaning t vs line ≡ Get p → Gets t line p
+pub get-told : (r : Room) (vs : List ℤ) (line : List ℕ) (p : Parameter) → meaning r vs line ≡ Get p → Gets (r .table) line p
 unfolding meaning ofShape bearerOf
-get-told t vs line p h = go (shape line) refl h
+get-told r vs line p h = go (shape line) refl h
   where
-    go : (s : Shape) → shape line ≡ s → ofShape vs line (bearerOf t line s) s ≡ Get p → Gets t line p
+    go : (s : Shape) → shape line ≡ s → ofShape r vs line (bearerOf (r .table) line s) s ≡ Get p → Gets (r .table) line p
     go shape.Malformed e h = no-get p 99 h
     go (shape.Get o c) s h =
-        let g = get-aims p (inRoom (bearer t (part line (o + 1) c)) (readIndices (part line (c + 1) (length line)))) h in
-        record { quote = o; close = c; shaped = s; names = names-told t (part line (o + 1) c) (part line (c + 1) (length line)) p g }
+        let g = get-aims p (inRoom (bearer (r .table) (part line (o + 1) c)) (readIndices (part line (c + 1) (length line)))) h in
+        record { quote = o; close = c; shaped = s; names = names-told (r .table) (part line (o + 1) c) (part line (c + 1) (length line)) p g }
     go (shape.Set o c e) s h =
-        absurd (set-gets p vs (part line (e + 1) (length line)) (inRoom (bearer t (part line (o + 1) c)) (readIndices (part line (c + 1) e))) h)
+        absurd (set-gets r p vs (part line (e + 1) (length line)) (inRoom (bearer (r .table) (part line (o + 1) c)) (readIndices (part line (c + 1) e))) h)

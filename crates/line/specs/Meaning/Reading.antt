@@ -28,6 +28,8 @@ use Rattle.syntax.specs.Shape.Reading.{get-ordered}
 use Rattle.syntax.specs.IndexPart.{readIndices}
 use Rattle.syntax.specs.Value.{readValue}
 use Rattle.syntax.specs.Value.Laws.{value-told}
+use Rattle.values.specs.Room.{Room, rowIn}
+use Rattle.values.specs.Room.Laws.{row-in-own}
 use Rattle.line.specs.Meaning.{indexed, Target, target, code, inModule, inRoom, putOf, getOf, setOf, ofShape}
 use Rattle.line.specs.declared.meaning.Target as declared
 use Rattle.line.specs.declared.meaning.Target.the-variants as aimed
@@ -84,35 +86,35 @@ module _ (b : Bearer) (s : List ℕ) where
 
 pub ruleset target-rules = (not-one, bearer-known, one-named, none-named)
 
--- ---- the value text
+-- ---- the value text: the code judges by the own row of the parameter
 
--- the values hold a parameter's value, which its row permits
-pub record Holds (vs : List ℤ) (p : Parameter) : Type 0 where
+-- the values hold a parameter's value, which is permitted in the room
+pub record Holds (r : Room) (vs : List ℤ) (p : Parameter) : Type 0 where
   pub within : p .owner .first + p .number < length vs
-  pub fits : RowFits (p .row)
-  pub permits : permitted (p .row) (getD vs (p .owner .first + p .number) (pos 0)) ≡ true
+  pub fits : RowFits (rowIn r p)
+  pub permits : permitted (rowIn r p) (getD vs (p .owner .first + p .number) (pos 0)) ≡ true
 
-module _ (vs : List ℤ) (p : Parameter) (h : Holds vs p) where
+module _ (r : Room) (vs : List ℤ) (p : Parameter) (h : Holds r vs p) where
   pub held-fits : RowFits (p .row)
-  held-fits = h .fits
+  held-fits = rw (row-in-own r p) at (h .fits)
 
   plain : bits (getD vs (p .owner .first + p .number) (pos 0)) ≡ getD vs (p .owner .first + p .number) (pos 0)
-  plain = permitted-bits (p .row) (getD vs (p .owner .first + p .number) (pos 0)) (h .fits) (h .permits)
+  plain = permitted-bits (rowIn r p) (getD vs (p .owner .first + p .number) (pos 0)) (h .fits) (h .permits)
 
   pub held-permitted : permitted (p .row) (bits (getD vs (p .owner .first + p .number) (pos 0))) ≡ true
-  held-permitted = rw plain (h .permits)
+  held-permitted = rw (plain, ← row-in-own r p) (h .permits)
 
   module _ (s : List ℕ) (w : ValueText) (e : w ≡ readValue (p .row) (bits (getD vs (p .owner .first + p .number) (pos 0))) s) where
-    said : w ≡ readValue (p .row) (getD vs (p .owner .first + p .number) (pos 0)) s
-    said = rw plain at e
+    said : w ≡ readValue (rowIn r p) (getD vs (p .owner .first + p .number) (pos 0)) s
+    said = rw (row-in-own r p) (rw plain at e)
 
-    pub put-said : (x : ℤ) → w ≡ value.Value x → Put p (bits x) ≡ putOf p (readValue (p .row) (getD vs (place p) (pos 0)) s)
+    pub put-said : (x : ℤ) → w ≡ value.Value x → Put p (bits x) ≡ putOf p (readValue (rowIn r p) (getD vs (place p) (pos 0)) s)
     unfolding putOf
     put-said x k =
-        let v = value-told (p .row) (getD vs (p .owner .first + p .number) (pos 0)) s x (sym said ∙ k) in
-        rw (place-is p, ← said, k, permitted-bits (p .row) x (h .fits) (v .permits))
+        let v = value-told (rowIn r p) (getD vs (p .owner .first + p .number) (pos 0)) s x (sym said ∙ k) in
+        rw (place-is p, ← said, k, permitted-bits (rowIn r p) x (h .fits) (v .permits))
 
-    pub put-wrong : w ≡ value.Wrong → Code 3 ≡ putOf p (readValue (p .row) (getD vs (place p) (pos 0)) s)
+    pub put-wrong : w ≡ value.Wrong → Code 3 ≡ putOf p (readValue (rowIn r p) (getD vs (place p) (pos 0)) s)
     unfolding putOf
     put-wrong k = rw (place-is p, ← said, k)
 
@@ -121,9 +123,9 @@ pub ruleset put-rules = (held-fits, held-permitted, put-said, put-wrong)
 -- ---- a line's parts, by its shape
 
 -- the module that bears a label has a known type, and each of its parameters has its value in the list
-pub record Seated (vs : List ℤ) (b : Bearer) : Type 0 where
+pub record Seated (r : Room) (vs : List ℤ) (b : Bearer) : Type 0 where
   pub known : KnownBearer b
-  pub holds : (indices : List ℕ) (p : Parameter) → inRoom b (readIndices indices) ≡ target p → Holds vs p
+  pub holds : (indices : List ℕ) (p : Parameter) → inRoom b (readIndices indices) ≡ target p → Holds r vs p
 
 module _ (line : List ℕ) (b : Bearer) (c : ℕ) (g : declared.Target) where
   module _ (e : aim g ≡ inRoom b (readIndices (take (length line - (c + 1)) (drop (c + 1) line)))) where
@@ -135,23 +137,23 @@ module _ (line : List ℕ) (b : Bearer) (c : ℕ) (g : declared.Target) where
     unfolding getOf aim
     get-coded n h = rw (part-is line (c + 1) (length line), ← e, h)
 
-  module _ (q : ℕ) (vs : List ℤ) (e : aim g ≡ inRoom b (readIndices (take (q - (c + 1)) (drop (c + 1) line)))) where
-    pub set-held : (p : Parameter) → g ≡ aimed.At p → Seated vs b → Holds vs p
+  module _ (r : Room) (q : ℕ) (vs : List ℤ) (e : aim g ≡ inRoom b (readIndices (take (q - (c + 1)) (drop (c + 1) line)))) where
+    pub set-held : (p : Parameter) → g ≡ aimed.At p → Seated r vs b → Holds r vs p
     unfolding aim
     set-held p h k = let f : aim g ≡ target p = rw h in k .holds (take (q - (c + 1)) (drop (c + 1) line)) p (sym e ∙ f)
 
-    pub set-named : (p : Parameter) (r : Meaning) → g ≡ aimed.At p
-        → r ≡ putOf p (readValue (p .row) (getD vs (place p) (pos 0)) (take (length line - (q + 1)) (drop (q + 1) line)))
-        → r ≡ setOf vs (part line (q + 1) (length line)) (inRoom b (readIndices (part line (c + 1) q)))
+    pub set-named : (p : Parameter) (o : Meaning) → g ≡ aimed.At p
+        → o ≡ putOf p (readValue (rowIn r p) (getD vs (place p) (pos 0)) (take (length line - (q + 1)) (drop (q + 1) line)))
+        → o ≡ setOf r vs (part line (q + 1) (length line)) (inRoom b (readIndices (part line (c + 1) q)))
     unfolding setOf aim
-    set-named p r h f = f ∙ rw (part-is line (c + 1) q, part-is line (q + 1) (length line), ← e, h)
+    set-named p o h f = f ∙ rw (part-is line (c + 1) q, part-is line (q + 1) (length line), ← e, h)
 
-    pub set-coded : (n : ℕ) → g ≡ aimed.Code n → Code n ≡ setOf vs (part line (q + 1) (length line)) (inRoom b (readIndices (part line (c + 1) q)))
+    pub set-coded : (n : ℕ) → g ≡ aimed.Code n → Code n ≡ setOf r vs (part line (q + 1) (length line)) (inRoom b (readIndices (part line (c + 1) q)))
     unfolding setOf aim
     set-coded n h = rw (part-is line (c + 1) q, ← e, h)
 
-pub seated-known : (vs : List ℤ) (b : Bearer) → Seated vs b → KnownBearer b
-seated-known vs b k = k .known
+pub seated-known : (r : Room) (vs : List ℤ) (b : Bearer) → Seated r vs b → KnownBearer b
+seated-known r vs b k = k .known
 
 pub ruleset get-rules = (get-named, get-coded)
 
@@ -180,18 +182,18 @@ module _ (line : List ℕ) (s : Shape) (e : s ≡ shape line) where
 
 pub ruleset places = (get-label, get-closed, set-label, set-indices, set-divided, set-closed)
 
-module _ (vs : List ℤ) (line : List ℕ) (b : Bearer) (s : Shape) where
-  pub malformed : s ≡ shape.Malformed → Code 99 ≡ ofShape vs line b s
+module _ (r : Room) (vs : List ℤ) (line : List ℕ) (b : Bearer) (s : Shape) where
+  pub malformed : s ≡ shape.Malformed → Code 99 ≡ ofShape r vs line b s
   unfolding ofShape
   malformed h = rw h
 
-  pub get-means : (o c : ℕ) (r : Meaning) → s ≡ shape.Get o c → r ≡ getOf (inRoom b (readIndices (part line (c + 1) (length line)))) → r ≡ ofShape vs line b s
+  pub get-means : (o c : ℕ) (x : Meaning) → s ≡ shape.Get o c → x ≡ getOf (inRoom b (readIndices (part line (c + 1) (length line)))) → x ≡ ofShape r vs line b s
   unfolding ofShape
-  get-means o c r h g = g ∙ rw h
+  get-means o c x h g = g ∙ rw h
 
-  pub set-means : (o c q : ℕ) (r : Meaning) → s ≡ shape.Set o c q
-      → r ≡ setOf vs (part line (q + 1) (length line)) (inRoom b (readIndices (part line (c + 1) q))) → r ≡ ofShape vs line b s
+  pub set-means : (o c q : ℕ) (x : Meaning) → s ≡ shape.Set o c q
+      → x ≡ setOf r vs (part line (q + 1) (length line)) (inRoom b (readIndices (part line (c + 1) q))) → x ≡ ofShape r vs line b s
   unfolding ofShape
-  set-means o c q r h g = g ∙ rw h
+  set-means o c q x h g = g ∙ rw h
 
 pub ruleset meaning-rules = (places, seated-known, malformed, get-means, set-means)

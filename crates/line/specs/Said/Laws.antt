@@ -1,5 +1,5 @@
 -- The set line that is written is made of bytes, has no 0D, and reads back as a put of its value.
-use mathlib.Core.Path.{_≡_}
+use mathlib.Core.Path.{_≡_, _∙_}
 use mathlib.Core.Bool.{true}
 use mathlib.Core.List.{List}
 use Prim.Native.Nat.{ℕ, _≤_}
@@ -24,7 +24,10 @@ use Rattle.line.specs.Meaning.{meaning}
 use Rattle.line.specs.Meaning.Laws.{puts-back}
 use Rattle.spelling.specs.Acknowledgement.{ack}
 use Rattle.line.specs.Answer.{act, answer}
-use Rattle.line.specs.Answer.Laws.{Puttable, answered}
+use Rattle.values.specs.Room.{Room, rowIn}
+use Rattle.values.specs.Room.Laws.{row-in-kind, row-in-permits, row-in-settable}
+use Rattle.values.specs.Settable.{Puttable}
+use Rattle.line.specs.Answer.Laws.{answered}
 use Rattle.spelling.specs.Say.{say}
 use Rattle.spelling.specs.Say.Laws.{say-bytes, say-spelled}
 use Rattle.spelling.specs.Text.{setText}
@@ -44,38 +47,44 @@ naming-whole t p r w h =
     rw (naming-rest t p w) (verb-no-return 0x53 0x41 (rest t p w) (λ e. omega arith) (λ e. omega arith) (rest-no-return t p r w h))
 
 -- a line without 0D that puts x at p
-pub record Said (t : List ℕ) (p : Parameter) (x : ℤ) (line : List ℕ) : Type 0 where
+pub record Said (r : Room) (p : Parameter) (x : ℤ) (line : List ℕ) : Type 0 where
   pub bytes : every isByte line ≡ true
   pub whole : indexOf 0x0D line ≡ length line
   pub short : length line ≤ 50
-  pub means : (vs : List ℤ) → meaning t vs line ≡ Put p x
+  pub means : (vs : List ℤ) → meaning r vs line ≡ Put p x
 
-naming-said : (t : List ℕ) (p : Parameter) (v x : ℤ) → Reached t p → p .row .settable ≡ true → permitted (p .row) x ≡ true
-    → Said t p x (naming t p (setText (p .row .kind) x))
-naming-said t p v x r s h =
-    let z = reached-sized t p r x h in
+naming-said : (r : Room) (p : Parameter) (v x : ℤ) → Reached (r .table) p → p .row .settable ≡ true → permitted (rowIn r p) x ≡ true
+    → Said r p x (naming (r .table) p (setText (p .row .kind) x))
+naming-said r p v x n s h =
+    let t = r .table in
+    let z = reached-sized t p n x (row-in-permits r p x h) in
     let w = setText (p .row .kind) x in
     let short = text-short (p .row .kind) x z in
     record {
-      bytes = rw (say-naming t p v x) at (say-bytes t p v x (label-bytes (label t (p .owner)) (r .right)));
-      whole = naming-whole t p r w (no-return (p .row .kind) x);
-      short = naming-short t p r w short;
-      means = λ vs. puts-back t vs (naming t p w) p x
-          (parts-put t vs p w (naming t p w) x (naming-parts t p r w short)
-          (record { settable = s; says = text-back (p .row .kind) x (getD vs (place p) (pos 0)) z; permits = h }));
+      bytes = rw (say-naming t p v x) at (say-bytes t p v x (label-bytes (label t (p .owner)) (n .right)));
+      whole = naming-whole t p n w (no-return (p .row .kind) x);
+      short = naming-short t p n w short;
+      means = λ vs. puts-back r vs (naming t p w) p x
+          (parts-put r vs p w (naming t p w) x (naming-parts t p n w short)
+          (record {
+            settable = row-in-settable r p ∙ s;
+            says = rw (row-in-kind r p) (text-back (p .row .kind) x (getD vs (place p) (pos 0)) z);
+            permits = h;
+          }));
     }
 
--- the set line of a value that p's row permits
-pub say-said : (t : List ℕ) (k : ℕ) (p : Parameter) (v x : ℤ) → sound t ≡ true → parameterAt (parameters t) k ≡ At p
-    → bearer t (label t (p .owner)) ≡ Only (p .owner) → p .row .settable ≡ true → permitted (p .row) x ≡ true → Said t p x (say t p v x)
-say-said t k p v x s e o w h = rw (say-naming t p v x) (naming-said t p v x (reached t k p s e o) w h)
+-- the set line of a value that is permitted in the room
+pub say-said : (r : Room) (k : ℕ) (p : Parameter) (v x : ℤ) → sound (r .table) ≡ true → parameterAt (parameters (r .table)) k ≡ At p
+    → bearer (r .table) (label (r .table) (p .owner)) ≡ Only (p .owner) → p .row .settable ≡ true → permitted (rowIn r p) x ≡ true
+    → Said r p x (say (r .table) p v x)
+say-said r k p v x s e o w h = rw (say-naming (r .table) p v x) (naming-said r p v x (reached (r .table) k p s e o) w h)
 
 -- whatever some line can put, the set line that is written puts
-pub say-puttable : (t : List ℕ) (p : Parameter) (v x : ℤ) → sound t ≡ true → Puttable t p x → Said t p x (say t p v x)
-say-puttable t p v x s h = let r = h .reached in say-said t (place p) p v x s (r .listed) (r .only) (r .settable) (h .permits)
+pub say-puttable : (r : Room) (p : Parameter) (v x : ℤ) → sound (r .table) ≡ true → Puttable r p x → Said r p x (say (r .table) p v x)
+say-puttable r p v x s h = let n = h .reached in say-said r (place p) p v x s (n .listed) (n .only) (n .settable) (h .permits)
 
 -- it is acknowledged, and sets the value at p's place
-pub said-answer : (t : List ℕ) (vs : List ℤ) (p : Parameter) (x : ℤ) (line : List ℕ) → Said t p x line
-    → answer t vs line ≡ record { reply = ack; values = set vs (place p) x }
+pub said-answer : (r : Room) (vs : List ℤ) (p : Parameter) (x : ℤ) (line : List ℕ) → Said r p x line
+    → answer r vs line ≡ record { reply = ack; values = set vs (place p) x }
 unfolding act
-said-answer t vs p x line h = answered t vs line (Put p x) (h .means vs)
+said-answer r vs p x line h = answered r vs line (Put p x) (h .means vs)

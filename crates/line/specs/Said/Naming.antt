@@ -28,6 +28,7 @@ use Rattle.syntax.specs.Shape.Laws.{SetLine, set-line-length, set-line-shape, s
 use Rattle.syntax.specs.IndexPart.{readIndices}
 use Rattle.line.specs.Said.Indices.{indices-back}
 use Rattle.syntax.specs.Value.Laws.{Valued}
+use Rattle.values.specs.Room.{Room, rowIn}
 use Rattle.line.specs.Meaning.Laws.{Names, Puts}
 use Rattle.spelling.specs.IndexText.{indexText}
 use Rattle.syntax.specs.declared.shape.Shape.the-variants as shape
@@ -67,9 +68,9 @@ pub record Parts (t : List ℕ) (p : Parameter) (w line : List ℕ) : Type 0 whe
   pub names : Names t (part line (quote + 1) close) (part line (close + 1) equal) p
   pub text : part line (equal + 1) (length line) ≡ w
 
-pub parts-put : (t : List ℕ) (vs : List ℤ) (p : Parameter) (w line : List ℕ) (x : ℤ) → Parts t p w line
-    → Valued (p .row) (getD vs (place p) (pos 0)) w x → Puts t vs line p x
-parts-put t vs p w line x h v =
+pub parts-put : (r : Room) (vs : List ℤ) (p : Parameter) (w line : List ℕ) (x : ℤ) → Parts (r .table) p w line
+    → Valued (rowIn r p) (getD vs (place p) (pos 0)) w x → Puts r vs line p x
+parts-put r vs p w line x h v =
     record { quote = h .quote; close = h .close; equal = h .equal; shaped = h .shaped; names = h .names; valued = rw (h .text) v }
 
 module _ (t : List ℕ) (p : Parameter) (r : Reached t p) where

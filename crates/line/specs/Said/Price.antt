@@ -17,6 +17,8 @@ use Rattle.values.specs.declared.parameter.Parameter.{Parameter}
 use Rattle.syntax.specs.Shape.Laws.{set-ordered}
 use Rattle.line.specs.Said.Indices.{indices-shortest}
 use Rattle.line.specs.Said.Texts.{text-shortest}
+use Rattle.values.specs.Room.{Room}
+use Rattle.values.specs.Room.Laws.{row-in-kind}
 use Rattle.line.specs.Meaning.{meaning}
 use Rattle.line.specs.Meaning.Laws.{Names, put-told}
 use Rattle.spelling.specs.IndexText.{indexText}
@@ -33,13 +35,15 @@ names-length t text indices p s h =
     ap (λ g. length (indexText g)) (named-told (p .owner) (h .groups) p (h .names) .indices) in
     omega (arith, indices-shortest indices (h .groups) (h .right))
 
-pub say-shortest : (t : List ℕ) (vs : List ℤ) (line : List ℕ) (p : Parameter) (v x : ℤ) → sound t ≡ true → meaning t vs line ≡ Put p x
-    → length (say t p v x) ≤ length line
-say-shortest t vs line p v x s e =
-    let h = put-told t vs line p x e in
+pub say-shortest : (r : Room) (vs : List ℤ) (line : List ℕ) (p : Parameter) (v x : ℤ) → sound (r .table) ≡ true → meaning r vs line ≡ Put p x
+    → length (say (r .table) p v x) ≤ length line
+say-shortest r vs line p v x s e =
+    let t = r .table in
+    let h = put-told r vs line p x e in
     let o = set-ordered line (h .quote) (h .close) (h .equal) (h .shaped) in
     let n = names-length t (part line (h .quote + 1) (h .close)) (part line (h .close + 1) (h .equal)) p s (h .names) in
-    let w = text-shortest (p .row .kind) (getD vs (place p) (pos 0)) x (part line (h .equal + 1) (length line)) (h .valued .says) in
+    let w =
+    text-shortest (p .row .kind) (getD vs (place p) (pos 0)) x (part line (h .equal + 1) (length line)) (rw (row-in-kind r p) at (h .valued .says)) in
     let a = part-length line (h .quote + 1) (h .close) (omega arith) in
     let b = part-length line (h .close + 1) (h .equal) (omega arith) in
     let c = part-length line (h .equal + 1) (length line) (omega arith) in

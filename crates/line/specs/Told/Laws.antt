@@ -19,6 +19,8 @@ use Rattle.room.specs.declared.label.Bearer.the-variants.{Only}
 use Rattle.values.specs.declared.parameter.Parameter.{Parameter}
 use Rattle.values.specs.declared.parameter.ParameterFound.the-variants.{At}
 use Rattle.line.specs.Said.Texts.{reply-back}
+use Rattle.values.specs.Room.{Room, rowIn}
+use Rattle.values.specs.Room.Laws.{row-in-kind, row-in-settable}
 use Rattle.line.specs.Meaning.{meaning}
 use Rattle.line.specs.Meaning.Laws.{puts-back}
 use Rattle.spelling.specs.Reply.{getReply}
@@ -71,15 +73,15 @@ reached-told t p v r h =
       says = λ present. reply-back (p .row .kind) v present z;
     }
 
--- the reply that tells a permitted value of p
+-- the reply that tells a value of p that its own row permits
 pub reply-told : (t : List ℕ) (k : ℕ) (p : Parameter) (v : ℤ) → sound t ≡ true → parameterAt (parameters t) k ≡ At p
     → bearer t (label t (p .owner)) ≡ Only (p .owner) → permitted (p .row) v ≡ true → Told t p v (getReply t p v)
 reply-told t k p v s e o h = reached-told t p v (reached t k p s e o) h
 
--- where the row may be set, the reply read as a set line puts the value that it tells
-pub told-puts : (t : List ℕ) (vs : List ℤ) (p : Parameter) (v : ℤ) (reply : List ℕ) → Told t p v reply → p .row .settable ≡ true
-    → permitted (p .row) v ≡ true → meaning t vs (asSetLine reply) ≡ Put p v
-told-puts t vs p v reply h s q =
-    puts-back t vs (asSetLine reply) p v
-    (parts-put t vs p (replyText (p .row .kind) v) (asSetLine reply) v (h .parts)
-    (record { settable = s; says = h .says (getD vs (place p) (pos 0)); permits = q }))
+-- where the row may be set and the room permits the value, the reply read as a set line puts it
+pub told-puts : (r : Room) (vs : List ℤ) (p : Parameter) (v : ℤ) (reply : List ℕ) → Told (r .table) p v reply → p .row .settable ≡ true
+    → permitted (rowIn r p) v ≡ true → meaning r vs (asSetLine reply) ≡ Put p v
+told-puts r vs p v reply h s q =
+    puts-back r vs (asSetLine reply) p v
+    (parts-put r vs p (replyText (p .row .kind) v) (asSetLine reply) v (h .parts)
+    (record { settable = row-in-settable r p ∙ s; says = rw (row-in-kind r p) (h .says (getD vs (place p) (pos 0))); permits = q }))

@@ -7,13 +7,14 @@ use native.Mathlib.Omega.{arith}
 use lib.IntN.{ℤ}
 use lib.ListN.{length}
 use Rattle.text.specs.Written.{Wrote}
+use Rattle.wish.specs.Target.{wishOf}
 use Rattle.wish.specs.Listing.{Admitted, allReachable, changes, listing, restoreNumber, testNumber}
 use Rattle.wish.specs.Listing.Numbers.{number-list, number-test, test-admits}
 use Rattle.restore.specs.Demand.{Restores}
 use Rattle.restore.specs.Demand.Rules.{returns-listed, returns-refused}
-use Rattle.restore_list.specs.Measuring.{Measures, measuredNumber}
+use Rattle.restore_list.specs.Measuring.{Matching, Measures, allChanges, measuredNumber}
 use Rattle.restore_list.specs.Measuring.Told.{number-beyond, number-fits, number-long, within-told}
-use Rattle.restore_list.specs.Measuring.Walk.{wishOf}
+use Rattle.restore_list.specs.Measuring.Walk.{admitted-lists, wish-changes}
 use Rattle.restore_list.specs.declared.module_measuring.Measured.{Measured}
 use Rattle.restore_list.specs.declared.module_measuring.Measured.the-variants.{Within, Beyond}
 use Rattle.restore.specs.declared.Restored.{Restored}
@@ -26,28 +27,28 @@ module _ (t : List ℕ) (vs : List ℤ) (selection : List ℕ) (ws : List ℤ) (
 
   -- ---- a list that the wish admits
 
-  module _ (a : Admitted (wishOf t vs selection ws)) (f : Measured) (g : Measures t (changes (wishOf t vs selection ws)) f) where
+  module _ (a : Admitted (wishOf t vs selection ws)) (f : Measured) (g : Measures t (allChanges t vs selection ws) f) where
     listed : restoreNumber (wishOf t vs selection ws) (length buffer) ≡ measuredNumber f (length buffer)
-    listed = number-list (wishOf t vs selection ws) (length buffer) a ∙ sym (g .numbers (length buffer))
+    listed = number-list (wishOf t vs selection ws) (length buffer) a ∙ rw (wish-changes (wishOf t vs selection ws)) (sym (g .numbers (length buffer)))
 
     pub refuses-reach : (r : Restored) → f ≡ Beyond → r ≡ record { bytes = 0; lines = 0; number = 7 } → Restores (wishOf t vs selection ws) buffer r buffer
     refuses-reach r e k = refuses r 7 k (listed ∙ rw e (number-beyond (length buffer))) (λ z. omega arith)
 
     module _ (bytes lines : ℕ) (e : f ≡ Within bytes lines) where
       told : (allReachable t (changes (wishOf t vs selection ws)) ≡ true) × (bytes ≡ length (listing t (changes (wishOf t vs selection ws)))) × (lines ≡ length (changes (wishOf t vs selection ws)))
-      told = within-told t (changes (wishOf t vs selection ws)) bytes lines (sym e ∙ g .is)
+      told = rw (wish-changes (wishOf t vs selection ws)) (within-told t (allChanges t vs selection ws) bytes lines (sym e ∙ g .is))
 
       pub refuses-room : (r : Restored) → length buffer < bytes → r ≡ record { bytes = 0; lines = 0; number = 8 } → Restores (wishOf t vs selection ws) buffer r buffer
       refuses-room r h k = refuses r 8 k (listed ∙ rw e (number-long bytes lines (length buffer) h)) (λ z. omega arith)
 
-      pub list-room : bytes ≤ length buffer → length (listing t (changes (wishOf t vs selection ws))) ≤ length buffer
-      list-room h = omega (arith, told .1)
+      pub list-room : bytes ≤ length buffer → length (listing t (allChanges t vs selection ws)) ≤ length buffer
+      list-room h = omega (arith, within-told t (allChanges t vs selection ws) bytes lines (sym e ∙ g .is) .1)
 
-      pub returns-list : (n : ℕ) (after : List ℕ) → bytes ≤ length buffer → Wrote buffer 0 (listing t (changes (wishOf t vs selection ws))) n after
+      pub returns-list : (n : ℕ) (after : List ℕ) → bytes ≤ length buffer → Wrote buffer 0 (listing t (allChanges t vs selection ws)) n after
           → Restores (wishOf t vs selection ws) buffer (record { bytes = bytes; lines = lines; number = 0 }) after
       returns-list n after h w =
           returns-listed (wishOf t vs selection ws) buffer bytes lines after (listed ∙ rw e (number-fits bytes lines (length buffer) h))
-          (told .1) (told .2) (bytes-by w)
+          (told .1) (told .2) (rw (wish-changes (wishOf t vs selection ws)) (bytes-by w))
 
   -- ---- a wish that it does not admit
 
@@ -60,6 +61,10 @@ pub admits : (t : List ℕ) (vs : List ℤ) (selection : List ℕ) (ws : List �
     → Admitted (wishOf t vs selection ws)
 admits t vs selection ws n e h = test-admits (wishOf t vs selection ws) (sym e ∙ h)
 
-pub ruleset listing-call = (refuses-reach, refuses-room, list-room, returns-list)
+-- its lists match the table
+pub matches : (t : List ℕ) (vs : List ℤ) (selection : List ℕ) (ws : List ℤ) → Admitted (wishOf t vs selection ws) → Matching t vs selection ws
+matches t vs selection ws a = admitted-lists (wishOf t vs selection ws) a
+
+pub ruleset listing-call = (matches, refuses-reach, refuses-room, list-room, returns-list)
 
 pub ruleset testing-call = (refuses-test, admits)

@@ -39,61 +39,61 @@ use Rattle.restore.specs.declared.Restored.{Restored}
 
 -- the list of a wish
 unfoldable pub list : Wish → List ℕ
-list w = listing (w .table) (changes w)
+list w = listing (w .room .table) (changes w)
 
-module _ (w : Wish) (lines : Lines (w .table)) (admitted : Admitted w) (replyRooms : ℕ → ℕ) (enough : (call : ℕ) → replyLimit ≤ replyRooms call) where
-  played : (bs : List ℕ) → play (w .table) replyRooms (w .present) bs ≡ feed (controlSpace (w .table)) fresh (w .present) bs
-  played bs = plays (w .table) (admitted .table) replyRooms enough (w .present) bs (admitted .present)
+module _ (w : Wish) (lines : Lines (w .room)) (admitted : Admitted w) (replyRooms : ℕ → ℕ) (enough : (call : ℕ) → replyLimit ≤ replyRooms call) where
+  played : (bs : List ℕ) → play (w .room) replyRooms (w .present) bs ≡ feed (controlSpace (w .room)) fresh (w .present) bs
+  played bs = plays (w .room) (admitted .table) replyRooms enough (w .present) bs (admitted .present)
 
-  target-is-right : Right (w .table) (target w)
+  target-is-right : Right (w .room) (target w)
   target-is-right = target-right w (admitted .present) (admitted .wanted)
 
   -- ---- no sequence that fulfils the wish is shorter than the list
 
-  ends-at : (bs : List ℕ) → Fulfils w replyRooms bs → feed (controlSpace (w .table)) fresh (w .present) bs .state ≡ target w
+  ends-at : (bs : List ℕ) → Fulfils w replyRooms bs → feed (controlSpace (w .room)) fresh (w .present) bs .state ≡ target w
   ends-at bs f = ap (λ p. p .state) (sym (played bs)) ∙ f .reached
 
   least : (bs : List ℕ) → Fulfils w replyRooms bs → length (list w) ≤ length bs
   unfolding list
   least bs f =
-      let t = w .table in
-      let kept = keeps-right t (admitted .table) in
-      let b = bound (controlSpace t) (Right t) kept (potential t (target w)) (answers-lower t (Right t) (potential t (target w)) (lowers t lines (target w))) (w .present) bs (admitted .present) in
-      let e : potential t (target w) (feed (controlSpace t) fresh (w .present) bs .state) ≡ 0 = rw (ends-at bs f) (price-reached t (parameters t) (target w)) in
+      let r = w .room in
+      let t = r .table in
+      let kept = keeps-right r (admitted .table) in
+      let b = bound (controlSpace r) (Right r) kept (potential t (target w)) (answers-lower r (Right r) (potential t (target w)) (lowers r lines (target w))) (w .present) bs (admitted .present) in
+      let e : potential t (target w) (feed (controlSpace r) fresh (w .present) bs .state) ≡ 0 = rw (ends-at bs f) (price-reached t (parameters t) (target w)) in
       omega (arith, b, e, price-listing t (wish-differ w admitted))
 
   -- ---- where no change is beyond reach, the list fulfils the wish
 
-  listed : allReachable (w .table) (changes w) ≡ true → play (w .table) replyRooms (w .present) (list w) ≡ acknowledged (length (changes w)) (target w)
+  listed : allReachable (w .room .table) (changes w) ≡ true → play (w .room) replyRooms (w .present) (list w) ≡ acknowledged (length (changes w)) (target w)
   unfolding list
   listed r =
       played (list w)
-      ∙ play-listing (w .table) lines (changes w) (w .present) (all-sayable w admitted r)
+      ∙ play-listing (w .room) lines (changes w) (w .present) (all-sayable w admitted r)
       ∙ ap (acknowledged (length (changes w))) (made-target w admitted)
 
-  shortest : allReachable (w .table) (changes w) ≡ true → Shortest w replyRooms (list w)
+  shortest : allReachable (w .room .table) (changes w) ≡ true → Shortest w replyRooms (list w)
   unfolding list
   shortest r =
       record {
-        bytes = listing-bytes (w .table) lines (changes w) (all-sayable w admitted r);
+        bytes = listing-bytes (w .room) lines (changes w) (all-sayable w admitted r);
         fulfils = record { served = ap (λ p. p .refused) (listed r); reached = ap (λ p. p .state) (listed r) };
         least = least;
       }
 
   -- ---- where one is, no byte sequence does: its value stays as it is
 
-  none : allReachable (w .table) (changes w) ≡ false → (bs : List ℕ) → Fulfils w replyRooms bs → ⊥
+  none : allReachable (w .room .table) (changes w) ≡ false → (bs : List ℕ) → Fulfils w replyRooms bs → ⊥
   none r bs f =
-      let t = w .table in
       let b = wish-beyond w r in
       let v = getD (w .present) (b .number) (pos 0) in
-      let kept = keeps-unreachable t lines (b .number) (b .parameter) v (b .found) (b .blocked) in
-      let stays = feed-keeps (controlSpace t) (Stays (b .number) v) kept fresh (w .present) bs fresh-few refl in
+      let kept = keeps-unreachable (w .room) lines (b .number) (b .parameter) v (b .found) (b .blocked) in
+      let stays = feed-keeps (controlSpace (w .room)) (Stays (b .number) v) kept fresh (w .present) bs fresh-few refl in
       b .differs (sym stays ∙ ap (λ vs. getD vs (b .number) (pos 0)) (ends-at bs f))
 
   -- ---- the answer
 
-  lists : (buffer : List ℕ) → length (list w) ≤ length buffer → allReachable (w .table) (changes w) ≡ true
+  lists : (buffer : List ℕ) → length (list w) ≤ length buffer → allReachable (w .room .table) (changes w) ≡ true
       → Listed w replyRooms (length buffer) (record { number = 0; bytes = length (list w); lines = length (changes w); buffer = sets buffer 0 (list w) })
   lists buffer h r =
       record {
@@ -107,28 +107,28 @@ module _ (w : Wish) (lines : Lines (w .table)) (admitted : Admitted w) (replyRoo
 
   pub demanded : (buffer : List ℕ) → Demanded w replyRooms (length buffer) (restore w buffer)
   unfolding list
-  demanded buffer = go (allReachable (w .table) (changes w)) (leb (length (list w)) (length buffer)) refl refl
+  demanded buffer = go (allReachable (w .room .table) (changes w)) (leb (length (list w)) (length buffer)) refl refl
     where
-      number : (n : ℕ) → listNumber (w .table) (length buffer) (changes w) ≡ n → restoreNumber w (length buffer) ≡ n
+      number : (n : ℕ) → listNumber (w .room .table) (length buffer) (changes w) ≡ n → restoreNumber w (length buffer) ≡ n
       number n e = number-list w (length buffer) admitted ∙ e
 
-      refuses : (n : ℕ) → listNumber (w .table) (length buffer) (changes w) ≡ n → (n ≡ 0 → ⊥)
+      refuses : (n : ℕ) → listNumber (w .room .table) (length buffer) (changes w) ≡ n → (n ≡ 0 → ⊥)
           → restore w buffer ≡ record { number = n; bytes = 0; lines = 0; buffer = buffer }
       refuses n e h = refused-told w buffer n (number n e) h
 
-      go : (r n : Bool) → allReachable (w .table) (changes w) ≡ r → leb (length (list w)) (length buffer) ≡ n
+      go : (r n : Bool) → allReachable (w .room .table) (changes w) ≡ r → leb (length (list w)) (length buffer) ≡ n
           → Demanded w replyRooms (length buffer) (restore w buffer)
-      go false n r e = rw (refuses 7 (list-unreachable (w .table) (length buffer) (changes w) r) (λ z. omega arith)) (unreachable refl (none r))
+      go false n r e = rw (refuses 7 (list-unreachable (w .room .table) (length buffer) (changes w) r) (λ z. omega arith)) (unreachable refl (none r))
       go true false r e =
           let h = leb-false (length (list w)) (length buffer) e in
-          rw (refuses 8 (list-long (w .table) (length buffer) (changes w) r h) (λ z. omega arith)) (no-room refl (list w) (shortest r) h)
+          rw (refuses 8 (list-long (w .room .table) (length buffer) (changes w) r h) (λ z. omega arith)) (no-room refl (list w) (shortest r) h)
       go true true r e =
           let h = leb-true (length (list w)) (length buffer) e in
-          rw (listed-told w buffer (number 0 (list-fits (w .table) (length buffer) (changes w) r h))) (accepted refl (lists buffer h r))
+          rw (listed-told w buffer (number 0 (list-fits (w .room .table) (length buffer) (changes w) r h))) (accepted refl (lists buffer h r))
 
 -- the whole of it, over the promise that the line layer keeps
 pub demand-three : (w : Wish) (buffer : List ℕ) → DemandThree w (length buffer) (restore w buffer)
-demand-three w buffer admitted replyRooms enough = demanded w (promise (w .table) (admitted .table)) admitted replyRooms enough buffer
+demand-three w buffer admitted replyRooms enough = demanded w (promise (w .room) (admitted .table)) admitted replyRooms enough buffer
 
 -- so the restore call's promise is kept once it tells and writes what it should
 pub told-restores : (w : Wish) (buffer : List ℕ) (r : Restored) (buffer′ : List ℕ) → tells r buffer′ ≡ restore w buffer → Restores w buffer r buffer′

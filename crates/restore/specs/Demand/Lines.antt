@@ -1,4 +1,4 @@
--- What the restore list rests on: the promise of the line layer over a table, as one record.
+-- What the restore list rests on: the promise of the line layer in a room, as one record.
 pub mod Price
 pub mod Promise
 pub mod Reach
@@ -13,11 +13,12 @@ use Rattle.text.specs.Cut.{has}
 use Rattle.text.specs.Every.{every}
 use Rattle.catalogue.specs.Row.{permitted}
 use Rattle.values.specs.Parameters.{place}
+use Rattle.values.specs.Room.{Room, rowIn}
+use Rattle.values.specs.Settable.{Settable}
 use Rattle.values.specs.declared.parameter.Parameter.{Parameter}
 use Rattle.syntax.specs.Shape.{lineLimit}
 use Rattle.spelling.specs.Acknowledgement.{ack}
 use Rattle.line.specs.Answer.{answer}
-use Rattle.line.specs.Answer.Laws.{Settable}
 use Rattle.spelling.specs.Say.{say}
 use Rattle.values.specs.Values.{equal}
 
@@ -27,19 +28,19 @@ price t p x v = cond (equal v x) 0 (suc (length (say t p v x)))
 
 -- what a line of any bytes does to the values: nothing, or it sets one parameter that lines can set; to whatever target
 -- the parameter is to come, the line and its 0D are at least as long as what they spare
-pub data Effect (t : List ℕ) (vs : List ℤ) (l : List ℕ) : Type 0 where
-  nothing : answer t vs l .values ≡ vs → Effect t vs l
-  puts : (p : Parameter) (x : ℤ) → Settable t p → answer t vs l .values ≡ set vs (place p) x
-      → ((target : ℤ) → price t p target (getD vs (place p) (pos 0)) ≤ length l + 1 + price t p target x) → Effect t vs l
+pub data Effect (r : Room) (vs : List ℤ) (l : List ℕ) : Type 0 where
+  nothing : answer r vs l .values ≡ vs → Effect r vs l
+  puts : (p : Parameter) (x : ℤ) → Settable (r .table) p → answer r vs l .values ≡ set vs (place p) x
+      → ((target : ℤ) → price (r .table) p target (getD vs (place p) (pos 0)) ≤ length l + 1 + price (r .table) p target x) → Effect r vs l
 
 -- the set line that is written is one line of bytes, fits the port, is acknowledged and sets its parameter
-pub record Said (t : List ℕ) (p : Parameter) (x : ℤ) (l : List ℕ) : Type 0 where
+pub record Said (r : Room) (p : Parameter) (x : ℤ) (l : List ℕ) : Type 0 where
   pub bytes : every isByte l ≡ true
   pub whole : has 0x0D l ≡ false
   pub fits : length l ≤ lineLimit
-  pub answered : (vs : List ℤ) → answer t vs l ≡ record { reply = ack; values = set vs (place p) x }
+  pub answered : (vs : List ℤ) → answer r vs l ≡ record { reply = ack; values = set vs (place p) x }
 
 -- each line has an effect as above, and set lines do as `Said` says
-pub record Lines (t : List ℕ) : Type 0 where
-  pub effect : (vs : List ℤ) (l : List ℕ) → Effect t vs l
-  pub says : (p : Parameter) (v x : ℤ) → Settable t p → permitted (p .row) x ≡ true → Said t p x (say t p v x)
+pub record Lines (r : Room) : Type 0 where
+  pub effect : (vs : List ℤ) (l : List ℕ) → Effect r vs l
+  pub says : (p : Parameter) (v x : ℤ) → Settable (r .table) p → permitted (rowIn r p) x ≡ true → Said r p x (say (r .table) p v x)

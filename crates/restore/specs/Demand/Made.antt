@@ -22,7 +22,7 @@ use Rattle.restore.specs.declared.Restored.{Restored}
 -- the calls cs play bs, as `Plays` says, on the wish's table, from the fresh port p and the present values on
 pub record Playing (w : Wish) (p : Port) (cs : List Made) (bs : List ℕ) : Type 0 where
   pub starts : AsFresh p
-  pub plays : Plays (w .table) cs p (w .present) bs
+  pub plays : Plays (w .room) cs p (w .present) bs
 
 -- they end with the target values
 abbrev pub Reaches : Wish → List Made → Type 0
@@ -55,13 +55,13 @@ enough : (call : ℕ) → replyLimit ≤ rooms call
 enough call = omega arith
 
 module _ (w : Wish) (admitted : Admitted w) (p : Port) (cs : List Made) (bs : List ℕ) (h : Playing w p cs bs) where
-  does : Does cs p (w .present) (play (w .table) rooms (w .present) bs)
-  does = calls-play (w .table) (admitted .table) rooms enough cs p (w .present) bs (h .starts) (admitted .present) (h .plays)
+  does : Does cs p (w .present) (play (w .room) rooms (w .present) bs)
+  does = calls-play (w .room) (admitted .table) rooms enough cs p (w .present) bs (h .starts) (admitted .present) (h .plays)
 
   fulfils : Reaches w cs → Fulfils w rooms bs
   fulfils e =
       record {
-        served = play-serves (w .table) (admitted .table) rooms enough (w .present) bs (admitted .present);
+        served = play-serves (w .room) (admitted .table) rooms enough (w .present) bs (admitted .present);
         reached = sym (does .values) ∙ e;
       }
 

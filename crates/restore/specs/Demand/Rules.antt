@@ -14,8 +14,8 @@ module _ (w : Wish) (buffer : List ℕ) where
   pub returns-refused : (n : ℕ) → restoreNumber w (length buffer) ≡ n → (n ≡ 0 → ⊥) → Restores w buffer (record { bytes = 0; lines = 0; number = n }) buffer
   returns-refused n e h = told-restores w buffer (record { bytes = 0; lines = 0; number = n }) buffer (unfold tells in sym (refused-told w buffer n e h))
 
-  pub returns-listed : (bytes lines : ℕ) (buffer′ : List ℕ) → restoreNumber w (length buffer) ≡ 0 → bytes ≡ length (listing (w .table) (changes w))
-      → lines ≡ length (changes w) → buffer′ ≡ sets buffer 0 (listing (w .table) (changes w))
+  pub returns-listed : (bytes lines : ℕ) (buffer′ : List ℕ) → restoreNumber w (length buffer) ≡ 0 → bytes ≡ length (listing (w .room .table) (changes w))
+      → lines ≡ length (changes w) → buffer′ ≡ sets buffer 0 (listing (w .room .table) (changes w))
       → Restores w buffer (record { bytes = bytes; lines = lines; number = 0 }) buffer′
   returns-listed bytes lines buffer′ e b l w′ =
       told-restores w buffer (record { bytes = bytes; lines = lines; number = 0 }) buffer′

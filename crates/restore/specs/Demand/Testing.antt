@@ -8,10 +8,10 @@ use lib.IntN.{ℤ}
 use Rattle.room.specs.Refusal.{firstRefusal}
 use Rattle.room.specs.Refusal.Laws.{refusing}
 use Rattle.room.specs.Table.Number.{table-held}
-use Rattle.wish.specs.Target.{selectionRight, wantedRight}
+use Rattle.values.specs.Room.{Room}
+use Rattle.wish.specs.Target.{selectionRight, wantedRight, wishOf}
 use Rattle.wish.specs.Listing.{selectionNumber, testNumber, tests, wantedNumber}
 use Rattle.wish.specs.Listing.Numbers.{passed-selection, selection-passed, selection-refused, test-first, wanted-passed, wanted-refused}
-use Rattle.restore_list.specs.Measuring.Walk.{wishOf}
 
 -- ---- the number of one test
 
@@ -22,12 +22,12 @@ module _ (t selection : List ℕ) (b : Bool) (e : b ≡ selectionRight t selecti
   pub passes-selection : b ≡ true → 0 ≡ selectionNumber t selection
   passes-selection h = sym (selection-passed t selection (sym e ∙ h))
 
-module _ (t selection : List ℕ) (ws : List ℤ) (b : Bool) (e : b ≡ wantedRight t selection ws) where
-  pub fails-wanted : not b ≡ true → 6 ≡ wantedNumber t selection ws
-  fails-wanted h = sym (wanted-refused t selection ws (sym e ∙ not-true b h))
+module _ (r : Room) (selection : List ℕ) (ws : List ℤ) (b : Bool) (e : b ≡ wantedRight r selection ws) where
+  pub fails-wanted : not b ≡ true → 6 ≡ wantedNumber r selection ws
+  fails-wanted h = sym (wanted-refused r selection ws (sym e ∙ not-true b h))
 
-  pub passes-wanted : not b ≡ false → 0 ≡ wantedNumber t selection ws
-  passes-wanted h = sym (wanted-passed t selection ws (sym e ∙ not-false b h))
+  pub passes-wanted : not b ≡ false → 0 ≡ wantedNumber r selection ws
+  passes-wanted h = sym (wanted-passed r selection ws (sym e ∙ not-false b h))
 
 pub ruleset wish-testing = (fails-selection, passes-selection, fails-wanted, passes-wanted)
 

@@ -10,37 +10,34 @@ use mir.Syntax.{w64}
 use mir.Val.{Fits}
 use Rattle.catalogue.specs.Catalogue.{rowLimit, rowsOf}
 use Rattle.catalogue.specs.declared.layout.Layout.{Layout}
-use Rattle.room.specs.Table.{sound}
 use Rattle.record.specs.Body.{bodyLength}
 use Rattle.record.specs.Layout.{layoutAt}
 use Rattle.room.specs.Table.Walk.{Walk, walk-few}
 use Rattle.values.specs.Parameters.Walk.{moduleHere}
-use Rattle.wish.specs.Listing.{Admitted, Change, allReachable, changes, listing}
+use Rattle.wish.specs.Listing.{Change, allReachable, listing}
 use Rattle.wish.specs.Listing.Laws.{listing-append, listing-none, reachable-append, reachable-none}
-use Rattle.restore_list.specs.Measuring.{Measures, MeasuresModule, Standing, measured, measuredIf, moduleChanges}
+use Rattle.restore_list.specs.Measuring.{Matching, Measures, MeasuresModule, Standing, allChanges, measured, measuredIf, moduleChanges}
 use Rattle.restore_list.specs.Measuring.Told.{beyond-told, measures-by, within-told}
-use Rattle.restore_list.specs.Measuring.Walk.{ChangeWalk, standing, walk-all, walk-changes, walk-none, wishOf}
+use Rattle.restore_list.specs.Measuring.Walk.{ChangeWalk, standing, walk-all, walk-changes, walk-none}
 use Rattle.restore_list.specs.declared.module_measuring.Measured.{Measured}
 use Rattle.restore_list.specs.declared.module_measuring.Measured.the-variants.{Within, Beyond}
 
 -- the changes of the records passed are within reach, and have so many bytes and lines
 pub record Sums (t : List ℕ) (vs : List ℤ) (selection : List ℕ) (ws : List ℤ) (number place first bytes lines : ℕ) : Type 0 where
   pub walk : Walk t number place first
-  pub sounds : sound t ≡ true
   pub done : List Change
-  pub passed : ChangeWalk (wishOf t vs selection ws) number place first done
+  pub passed : ChangeWalk t vs selection ws number place first done
   pub reach : allReachable t done ≡ true
   pub bytes-are : bytes ≡ length (listing t done)
   pub lines-are : lines ≡ length done
   pub short : bytes ≤ 128 * (rowLimit * number)
   pub few : lines ≤ rowLimit * number
 
-pub sums-start : (t : List ℕ) (vs : List ℤ) (selection : List ℕ) (ws : List ℤ) → Admitted (wishOf t vs selection ws) → Sums t vs selection ws 0 0 0 0 0
+pub sums-start : (t : List ℕ) (vs : List ℤ) (selection : List ℕ) (ws : List ℤ) → Matching t vs selection ws → Sums t vs selection ws 0 0 0 0 0
 sums-start t vs selection ws a =
-    let s = walk-none (wishOf t vs selection ws) a in
+    let s = walk-none t vs selection ws a in
     record {
       walk = s .counted .walk;
-      sounds = a .table;
       done = [];
       passed = s;
       reach = reachable-none t;
@@ -57,7 +54,7 @@ beyond-first t cs done rest e h = rw (e, reachable-append t done rest, h) refl
 module _ (t : List ℕ) (vs : List ℤ) (selection : List ℕ) (ws : List ℤ) (number place first bytes lines : ℕ)
     (s : Sums t vs selection ws number place first bytes lines) (l : place < length t) (x : Layout) (q : x ≡ layoutAt t place) where
   pub sums-standing : Standing t vs selection ws (record { number = number; place = place; layout = x; first = first })
-  sums-standing = rw q (standing t vs selection ws number place first (s .done) (s .passed) (s .sounds) l)
+  sums-standing = rw q (standing t vs selection ws number place first (s .done) (s .passed) l)
 
   here : List Change
   here = moduleChanges selection (moduleHere t number place first) vs ws
@@ -67,13 +64,13 @@ module _ (t : List ℕ) (vs : List ℤ) (selection : List ℕ) (ws : List ℤ) (
     unfolding here
     is = rw q at (g .measures .is)
 
-    pub sums-beyond : f ≡ Beyond → Measures t (changes (wishOf t vs selection ws)) Beyond
+    pub sums-beyond : f ≡ Beyond → Measures t (allChanges t vs selection ws) Beyond
     unfolding here
     sums-beyond e =
         let r : allReachable t here ≡ false = beyond-told t here (sym e ∙ is) in
-        let w = walk-changes (wishOf t vs selection ws) number place first (s .done) (s .passed) l (length (rowsOf (layoutAt t place))) refl (bodyLength (getD t place 0)) refl in
-        measures-by t (changes (wishOf t vs selection ws)) Beyond
-        (beyond-first t (changes (wishOf t vs selection ws)) (s .done ++ here) _ (w .split) (reachable-append t (s .done) here ∙ rw (s .reach, r) refl))
+        let w = walk-changes t vs selection ws number place first (s .done) (s .passed) l (length (rowsOf (layoutAt t place))) refl (bodyLength (getD t place 0)) refl in
+        measures-by t (allChanges t vs selection ws) Beyond
+        (beyond-first t (allChanges t vs selection ws) (s .done ++ here) _ (w .split) (reachable-append t (s .done) here ∙ rw (s .reach, r) refl))
 
     module _ (b c : ℕ) (e : f ≡ Within b c) where
       told : (allReachable t here ≡ true) × (b ≡ length (listing t here)) × (c ≡ length here)
@@ -92,11 +89,10 @@ module _ (t : List ℕ) (vs : List ℤ) (selection : List ℕ) (ws : List ℤ) (
           → Sums t vs selection ws (number + 1) (place + 1 + size) (first + rows) (bytes + b) (lines + c)
       unfolding here rowLimit
       sums-next size rows k n =
-          let p = walk-changes (wishOf t vs selection ws) number place first (s .done) (s .passed) l rows n size k in
+          let p = walk-changes t vs selection ws number place first (s .done) (s .passed) l rows n size k in
           let u = told in
           record {
             walk = p .counted .walk;
-            sounds = s .sounds;
             done = s .done ++ here;
             passed = p;
             reach = reachable-append t (s .done) here ∙ rw (s .reach, u .0) refl;
@@ -107,11 +103,11 @@ module _ (t : List ℕ) (vs : List ℤ) (selection : List ℕ) (ws : List ℤ) (
           }
 
 pub sums-all : (t : List ℕ) (vs : List ℤ) (selection : List ℕ) (ws : List ℤ) (number place first bytes lines : ℕ)
-    → Sums t vs selection ws number place first bytes lines → length t ≤ place → Measures t (changes (wishOf t vs selection ws)) (Within bytes lines)
+    → Sums t vs selection ws number place first bytes lines → length t ≤ place → Measures t (allChanges t vs selection ws) (Within bytes lines)
 unfolding measured measuredIf
 sums-all t vs selection ws number place first bytes lines s l =
-    measures-by t (changes (wishOf t vs selection ws)) (Within bytes lines)
-    (rw (walk-all (wishOf t vs selection ws) number place first (s .done) (s .passed) l, s .reach, s .bytes-are, s .lines-are) refl)
+    measures-by t (allChanges t vs selection ws) (Within bytes lines)
+    (rw (walk-all t vs selection ws number place first (s .done) (s .passed) l, s .reach, s .bytes-are, s .lines-are) refl)
 
 pub ruleset summing =
     (sums-start, sums-standing, sums-beyond, sums-bytes-fit, sums-lines-fit, sums-next, sums-all)

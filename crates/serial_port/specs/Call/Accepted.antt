@@ -11,6 +11,7 @@ use Rattle.text.specs.Cut.{has, before}
 use Rattle.text.specs.Cut.Found.{has-within}
 use Rattle.text.specs.Written.{Wrote, wrote}
 use Rattle.room.specs.Table.{sound}
+use Rattle.values.specs.Room.{Room}
 use Rattle.values.specs.Values.{valuesSound}
 use Rattle.syntax.specs.Shape.{lineLimit}
 use Rattle.serial_port.specs.Server.{Server, controlSpace}
@@ -45,11 +46,11 @@ accept server s p bs buffer c s′ buffer′ a =
     }
 
 -- so is one of ControlSpace to which no refusal applies
-pub answer-accept : (t : List ℕ) (vs : List ℤ) (p : Port) (bs buffer : List ℕ) (c : Called) (vs′ : List ℤ) (buffer′ : List ℕ)
-    → sound t ≡ true → valuesSound t vs ≡ true → replyLimit ≤ length buffer → p .len ≤ lineLimit
-    → Answers t vs p bs buffer c vs′ buffer′ → Accepted (controlSpace t) vs p bs buffer c vs′ buffer′
-answer-accept t vs p bs buffer c vs′ buffer′ s r h k a =
-    accept (controlSpace t) vs p bs buffer c vs′ buffer′ (rw (accepted t vs (length buffer) (p .len) s r h k) at a)
+pub answer-accept : (r : Room) (vs : List ℤ) (p : Port) (bs buffer : List ℕ) (c : Called) (vs′ : List ℤ) (buffer′ : List ℕ)
+    → sound (r .table) ≡ true → valuesSound r vs ≡ true → replyLimit ≤ length buffer → p .len ≤ lineLimit
+    → Answers r vs p bs buffer c vs′ buffer′ → Accepted (controlSpace r) vs p bs buffer c vs′ buffer′
+answer-accept r vs p bs buffer c vs′ buffer′ s g h k a =
+    accept (controlSpace r) vs p bs buffer c vs′ buffer′ (rw (accepted r vs (length buffer) (p .len) s g h k) at a)
 
 -- ---- how much is consumed, and how long the reply is
 
@@ -72,11 +73,11 @@ module _ {S : Type 0} (server : Server S) (v : View) (s : S) (bs : List ℕ) whe
       go false e = rw (step-waits server s v bs e) h
 
 -- the reply of any step of ControlSpace fits 64 bytes
-pub step-fits : (t : List ℕ) (vs : List ℤ) (v : View) (bs : List ℕ) → sound t ≡ true → valuesSound t vs ≡ true
-    → length (step (controlSpace t) vs v bs .reply) ≤ 64
+pub step-fits : (r : Room) (vs : List ℤ) (v : View) (bs : List ℕ) → sound (r .table) ≡ true → valuesSound r vs ≡ true
+    → length (step (controlSpace r) vs v bs .reply) ≤ 64
 unfolding replied waiting replyLimit
-step-fits t vs v bs s r = go (has 0x0D bs) refl
+step-fits r vs v bs s g = go (has 0x0D bs) refl
   where
-    go : (b : Bool) → has 0x0D bs ≡ b → length (step (controlSpace t) vs v bs .reply) ≤ 64
-    go true e = rw (step-finishes (controlSpace t) vs v bs e) (reply-fits t vs (join v (before 0x0D bs)) s r)
-    go false e = rw (step-waits (controlSpace t) vs v bs e) (omega arith)
+    go : (b : Bool) → has 0x0D bs ≡ b → length (step (controlSpace r) vs v bs .reply) ≤ 64
+    go true e = rw (step-finishes (controlSpace r) vs v bs e) (reply-fits r vs (join v (before 0x0D bs)) s g)
+    go false e = rw (step-waits (controlSpace r) vs v bs e) (omega arith)

@@ -7,6 +7,7 @@ use lib.IntN.{ℤ}
 use lib.ListN.{take}
 use Rattle.text.specs.Written.{Wrote}
 use Rattle.spelling.specs.Acknowledgement.{nak}
+use Rattle.values.specs.Room.{Room}
 use Rattle.line.specs.Answer as line
 use Rattle.serial_port.specs.Server.{Server, controlSpace}
 use Rattle.serial_port.specs.Server.Laws.{line-reply, line-state, overrun-reply, overrun-state}
@@ -20,16 +21,16 @@ pub data Finishes {S : Type 0} (server : Server S) (s : S) (p : Port) (buffer : 
   finishes : (reply : Wrote buffer 0 (finish server s (view p) .reply) n buffer′) → (state : s′ ≡ finish server s (view p) .state)
       → Finishes server s p buffer n s′ buffer′
 
-module _ (t : List ℕ) (vs : List ℤ) (p : Port) (buffer : List ℕ) (n : ℕ) (buffer′ : List ℕ) where
-  pub finishes-over : p .overrun ≡ true → Wrote buffer 0 (nak 99) n buffer′ → Finishes (controlSpace t) vs p buffer n vs buffer′
+module _ (r : Room) (vs : List ℤ) (p : Port) (buffer : List ℕ) (n : ℕ) (buffer′ : List ℕ) where
+  pub finishes-over : p .overrun ≡ true → Wrote buffer 0 (nak 99) n buffer′ → Finishes (controlSpace r) vs p buffer n vs buffer′
   unfolding view finish
-  finishes-over o w = finishes (rw (o, overrun-reply t vs) w) (rw (o, overrun-state t vs) refl)
+  finishes-over o w = finishes (rw (o, overrun-reply r vs) w) (rw (o, overrun-state r vs) refl)
 
-  pub finishes-line : (vs′ : List ℤ) → p .overrun ≡ false → line.Answers t vs (take (p .len) (p .held)) buffer n vs′ buffer′
-      → Finishes (controlSpace t) vs p buffer n vs′ buffer′
+  pub finishes-line : (vs′ : List ℤ) → p .overrun ≡ false → line.Answers r vs (take (p .len) (p .held)) buffer n vs′ buffer′
+      → Finishes (controlSpace r) vs p buffer n vs′ buffer′
   unfolding view finish
   finishes-line vs′ o a =
       let l = take (p .len) (p .held) in
-      finishes (rw (o, line-reply t vs l) (reply-by a)) (rw (o, line-state t vs l) (values-by a))
+      finishes (rw (o, line-reply r vs l) (reply-by a)) (rw (o, line-state r vs l) (values-by a))
 
 pub ruleset finishing = (finishes-over, finishes-line)

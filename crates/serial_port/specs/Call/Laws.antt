@@ -10,6 +10,7 @@ use lib.Seq.{sets, sets-eq, take-at}
 use Rattle.text.specs.Cut.{has, indexOf, before}
 use Rattle.text.specs.Cut.Found.{has-nothing}
 use Rattle.room.specs.Table.{sound}
+use Rattle.values.specs.Room.{Room}
 use Rattle.values.specs.Values.{valuesSound}
 use Rattle.syntax.specs.Shape.{lineLimit}
 use Rattle.spelling.specs.Acknowledgement.Laws.{nak-length}
@@ -57,37 +58,37 @@ pub written-first : (buffer l : List ℕ) → length l ≤ length buffer → tak
 written-first buffer l h = rw (sets-eq l buffer 0 (omega arith)) (take-at l (drop (0 + length l) buffer) (length l) refl)
 
 -- every reply of ControlSpace fits a buffer of 64 bytes
-pub reply-fits : (t : List ℕ) (vs : List ℤ) (v : View) → sound t ≡ true → valuesSound t vs ≡ true
-    → length (finish (controlSpace t) vs v .reply) ≤ replyLimit
+pub reply-fits : (r : Room) (vs : List ℤ) (v : View) → sound (r .table) ≡ true → valuesSound r vs ≡ true
+    → length (finish (controlSpace r) vs v .reply) ≤ replyLimit
 unfolding finish replyLimit
-reply-fits t vs (held l) s r = rw (line-reply t vs l) (omega (arith, reply-limit t vs l s r))
-reply-fits t vs over s r = rw (overrun-reply t vs) (omega (arith, nak-length 99))
+reply-fits r vs (held l) s g = rw (line-reply r vs l) (omega (arith, reply-limit r vs l s g))
+reply-fits r vs over s g = rw (overrun-reply r vs) (omega (arith, nak-length 99))
 
 -- and has a byte or more
-pub reply-sent : (t : List ℕ) (vs : List ℤ) (v : View) → sound t ≡ true → valuesSound t vs ≡ true → 1 ≤ length (finish (controlSpace t) vs v .reply)
+pub reply-sent : (r : Room) (vs : List ℤ) (v : View) → sound (r .table) ≡ true → valuesSound r vs ≡ true → 1 ≤ length (finish (controlSpace r) vs v .reply)
 unfolding finish
-reply-sent t vs (held l) s r = rw (line-reply t vs l) (reply-some t vs l s r)
-reply-sent t vs over s r = rw (overrun-reply t vs) (omega (arith, nak-length 99))
+reply-sent r vs (held l) s g = rw (line-reply r vs l) (reply-some r vs l s g)
+reply-sent r vs over s g = rw (overrun-reply r vs) (omega (arith, nak-length 99))
 
 -- ---- ports that count as the same
 
 -- a call does not tell them apart where neither claims over 64 bytes
-pub same-call : (t : List ℕ) (vs : List ℤ) (p q : Port) (bs buffer : List ℕ) → p .len ≤ lineLimit → q .len ≤ lineLimit → Same p q
-    → call t vs p bs buffer ≡ call t vs q bs buffer
+pub same-call : (r : Room) (vs : List ℤ) (p q : Port) (bs buffer : List ℕ) → p .len ≤ lineLimit → q .len ≤ lineLimit → Same p q
+    → call r vs p bs buffer ≡ call r vs q bs buffer
 unfolding call
-same-call t vs p q bs buffer h k s = rw (same-seen p q s, refused-alike t vs (length buffer) (p .len) (q .len) h k) refl
+same-call r vs p q bs buffer h k s = rw (same-seen p q s, refused-alike r vs (length buffer) (p .len) (q .len) h k) refl
 
 handed-alike : (number : ℕ) (v : View) (p p′ q r : Port) → Same p p′ → Handed number p v q → Handed number p′ v r → Same q r
 handed-alike zero v p p′ q r s h k = seen-same q r (h .1) (k .1) (h .0 ∙ sym (k .0))
 handed-alike (suc n) v p p′ q r s h k = rw (h, k) s
 
 -- given the same bytes, they are handed back as ports that count as the same
-pub same-handed : (t : List ℕ) (vs : List ℤ) (p p′ : Port) (bs buffer : List ℕ) → p .len ≤ lineLimit → p′ .len ≤ lineLimit → Same p p′
-    → (c c′ : Called) (vs′ vs″ : List ℤ) (buffer′ buffer″ : List ℕ) → Answers t vs p bs buffer c vs′ buffer′ → Answers t vs p′ bs buffer c′ vs″ buffer″
+pub same-handed : (r : Room) (vs : List ℤ) (p p′ : Port) (bs buffer : List ℕ) → p .len ≤ lineLimit → p′ .len ≤ lineLimit → Same p p′
+    → (c c′ : Called) (vs′ vs″ : List ℤ) (buffer′ buffer″ : List ℕ) → Answers r vs p bs buffer c vs′ buffer′ → Answers r vs p′ bs buffer c′ vs″ buffer″
     → Same (c .port) (c′ .port)
-same-handed t vs p p′ bs buffer h k s c c′ vs′ vs″ buffer′ buffer″ a b =
-    let number = callNumber t vs (length buffer) (p .len) in
-    let seen = step (controlSpace t) vs (view p) bs .port in
+same-handed r vs p p′ bs buffer h k s c c′ vs′ vs″ buffer′ buffer″ a b =
+    let number = callNumber r vs (length buffer) (p .len) in
+    let seen = step (controlSpace r) vs (view p) bs .port in
     let handed : Handed number p′ seen (c′ .port) =
-    rw (same-seen p p′ s, refused-alike t vs (length buffer) (p .len) (p′ .len) h k) (handed-by b) in
+    rw (same-seen p p′ s, refused-alike r vs (length buffer) (p .len) (p′ .len) h k) (handed-by b) in
     handed-alike number seen p p′ (c .port) (c′ .port) s (handed-by a) handed

@@ -10,6 +10,7 @@ use lib.IntN.{ℤ}
 use lib.ListN.{length}
 use Rattle.text.specs.Written.Laws.{past-by, bytes-by}
 use Rattle.room.specs.Table.{sound}
+use Rattle.values.specs.Room.{Room}
 use Rattle.values.specs.Values.{valuesSound}
 use Rattle.syntax.specs.Shape.{lineLimit}
 use Rattle.serial_port.specs.Server.{controlSpace}
@@ -26,32 +27,32 @@ use Rattle.serial_port.specs.declared.port.Gathered.{Gathered}
 
 -- ---- a call with its number
 
-module _ (t : List ℕ) (vs : List ℤ) (p : Port) (bs buffer : List ℕ) (n : ℕ) (e : n ≡ callNumber t vs (length buffer) (p .len)) where
-  pub taken-refused : (n ≡ 0 → ⊥) → Answers t vs p bs buffer (record { port = p; consumed = 0; sent = 0; number = n }) vs buffer
-  taken-refused h = rw (← e) (returns-refused (controlSpace t) vs p bs buffer n h)
+module _ (r : Room) (vs : List ℤ) (p : Port) (bs buffer : List ℕ) (n : ℕ) (e : n ≡ callNumber r vs (length buffer) (p .len)) where
+  pub taken-refused : (n ≡ 0 → ⊥) → Answers r vs p bs buffer (record { port = p; consumed = 0; sent = 0; number = n }) vs buffer
+  taken-refused h = rw (← e) (returns-refused (controlSpace r) vs p bs buffer n h)
 
 pub ruleset taking = (taken-refused, none-told)
 
 -- ---- a call that is served
 
-module _ (t : List ℕ) (vs : List ℤ) (p : Port) (bs buffer : List ℕ) (g : Gathered) (c : Gathers p bs g) (s : sound t ≡ true) (v : valuesSound t vs ≡ true)
+module _ (r : Room) (vs : List ℤ) (p : Port) (bs buffer : List ℕ) (g : Gathered) (c : Gathers p bs g) (s : sound (r .table) ≡ true) (v : valuesSound r vs ≡ true)
     (h : 64 ≤ length buffer) (k : p .len ≤ 64) where
-  number : callNumber t vs (length buffer) (p .len) ≡ 0
+  number : callNumber r vs (length buffer) (p .len) ≡ 0
   unfolding replyLimit lineLimit
-  number = accepted t vs (length buffer) (p .len) s v h k
+  number = accepted r vs (length buffer) (p .len) s v h k
 
   pub served-waiting : not (g .finished) ≡ true
-      → Answers t vs p bs buffer (record { port = g .port; consumed = g .consumed; sent = 0; number = 0 }) vs buffer
-  served-waiting w = rw number (returns-waiting (controlSpace t) vs p bs buffer g c (not-true (g .finished) w))
+      → Answers r vs p bs buffer (record { port = g .port; consumed = g .consumed; sent = 0; number = 0 }) vs buffer
+  served-waiting w = rw number (returns-waiting (controlSpace r) vs p bs buffer g c (not-true (g .finished) w))
 
   pub served-finished : (n : ℕ) (vs′ : List ℤ) (buffer′ : List ℕ) (q : Port) → not (g .finished) ≡ false
-      → Finishes (controlSpace t) vs (g .port) buffer n vs′ buffer′ → view q ≡ fresh → q .len ≡ 0
-      → Answers t vs p bs buffer (record { port = q; consumed = g .consumed; sent = n; number = 0 }) vs′ buffer′
+      → Finishes (controlSpace r) vs (g .port) buffer n vs′ buffer′ → view q ≡ fresh → q .len ≡ 0
+      → Answers r vs p bs buffer (record { port = q; consumed = g .consumed; sent = n; number = 0 }) vs′ buffer′
   unfolding lineLimit
-  served-finished n vs′ buffer′ q w (finishes r v) e z =
+  served-finished n vs′ buffer′ q w (finishes x v) e z =
       rw number
-      (returns-finished (controlSpace t) vs p bs buffer g c q n vs′ buffer′ (not-false (g .finished) w)
-      (past-by r ∙ zero-add (length (finish (controlSpace t) vs (view (g .port)) .reply))) v (bytes-by r) e (omega arith))
+      (returns-finished (controlSpace r) vs p bs buffer g c q n vs′ buffer′ (not-false (g .finished) w)
+      (past-by x ∙ zero-add (length (finish (controlSpace r) vs (view (g .port)) .reply))) v (bytes-by x) e (omega arith))
 
 pub served-few : (p : Port) (bs : List ℕ) (g : Gathered) → Gathers p bs g → g .port .len ≤ 64
 unfolding lineLimit

@@ -6,6 +6,7 @@ use native.Mathlib.Omega.{arith}
 use lib.IntN.{ℤ}
 use lib.ListN.{length}
 use Rattle.text.specs.Cut.Found.{has-nothing}
+use Rattle.values.specs.Room.{Room}
 use Rattle.syntax.specs.Shape.{lineLimit}
 use Rattle.serial_port.specs.Server.{Server, controlSpace}
 use Rattle.serial_port.specs.Port.{view}
@@ -79,37 +80,37 @@ module _ {S : Type 0} {server : Server S} {number : ℕ} {s : S} {p : Port} {bs 
 
 -- ---- what ControlSpace's call tells
 
-module _ (t : List ℕ) (vs : List ℤ) (p : Port) (bs buffer : List ℕ) where
-  pub call-number : call t vs p bs buffer .number ≡ callNumber t vs (length buffer) (p .len)
+module _ (r : Room) (vs : List ℤ) (p : Port) (bs buffer : List ℕ) where
+  pub call-number : call r vs p bs buffer .number ≡ callNumber r vs (length buffer) (p .len)
   unfolding call
-  call-number = tell-number (callNumber t vs (length buffer) (p .len)) vs buffer (step (controlSpace t) vs (view p) bs)
+  call-number = tell-number (callNumber r vs (length buffer) (p .len)) vs buffer (step (controlSpace r) vs (view p) bs)
 
   -- a refusal counts zero and changes nothing
-  pub refused-told : (n : ℕ) → callNumber t vs (length buffer) (p .len) ≡ suc n
-      → call t vs p bs buffer ≡ record { number = suc n; consumed = 0; sent = 0; state = vs; buffer = buffer }
+  pub refused-told : (n : ℕ) → callNumber r vs (length buffer) (p .len) ≡ suc n
+      → call r vs p bs buffer ≡ record { number = suc n; consumed = 0; sent = 0; state = vs; buffer = buffer }
   unfolding call tell
   refused-told n e = rw e refl
 
   -- a field of what a call that was made told
-  pub call-field : {c : Called} {vs′ : List ℤ} {buffer′ : List ℕ} → Answers t vs p bs buffer c vs′ buffer′ → {A : Type 0} (f : Told (List ℤ) → A)
-      → f (record { number = c .number; consumed = c .consumed; sent = c .sent; state = vs′; buffer = buffer′ }) ≡ f (call t vs p bs buffer)
+  pub call-field : {c : Called} {vs′ : List ℤ} {buffer′ : List ℕ} → Answers r vs p bs buffer c vs′ buffer′ → {A : Type 0} (f : Told (List ℤ) → A)
+      → f (record { number = c .number; consumed = c .consumed; sent = c .sent; state = vs′; buffer = buffer′ }) ≡ f (call r vs p bs buffer)
   unfolding call
   call-field a f = told-field a f
 
 -- a port that is served claims at most 64 bytes
-pub served-claim : (t : List ℕ) (vs : List ℤ) (replyRoom claimed : ℕ) → callNumber t vs replyRoom claimed ≡ 0 → claimed ≤ lineLimit
+pub served-claim : (r : Room) (vs : List ℤ) (replyRoom claimed : ℕ) → callNumber r vs replyRoom claimed ≡ 0 → claimed ≤ lineLimit
 unfolding lineLimit
-served-claim t vs replyRoom claimed e = none-claim t vs replyRoom claimed (callNumber t vs replyRoom claimed) refl e
+served-claim r vs replyRoom claimed e = none-claim r vs replyRoom claimed (callNumber r vs replyRoom claimed) refl e
 
 -- zero bytes given to a call that is served
-module _ (t : List ℕ) (vs : List ℤ) (p : Port) (buffer : List ℕ) (e : callNumber t vs (length buffer) (p .len) ≡ 0) where
-  nothing-step : step (controlSpace t) vs (view p) [] ≡ waiting vs 0 (view p)
-  nothing-step = step-nothing (controlSpace t) vs (view p) (claim-view p (served-claim t vs (length buffer) (p .len) e))
+module _ (r : Room) (vs : List ℤ) (p : Port) (buffer : List ℕ) (e : callNumber r vs (length buffer) (p .len) ≡ 0) where
+  nothing-step : step (controlSpace r) vs (view p) [] ≡ waiting vs 0 (view p)
+  nothing-step = step-nothing (controlSpace r) vs (view p) (claim-view p (served-claim r vs (length buffer) (p .len) e))
 
-  pub nothing-told : call t vs p [] buffer ≡ record { number = 0; consumed = 0; sent = 0; state = vs; buffer = buffer }
+  pub nothing-told : call r vs p [] buffer ≡ record { number = 0; consumed = 0; sent = 0; state = vs; buffer = buffer }
   unfolding call tell waiting
   nothing-told = rw (e, nothing-step) refl
 
-  pub nothing-seen : step (controlSpace t) vs (view p) [] .port ≡ view p
+  pub nothing-seen : step (controlSpace r) vs (view p) [] .port ≡ view p
   unfolding waiting
   nothing-seen = rw nothing-step refl

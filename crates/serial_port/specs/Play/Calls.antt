@@ -7,6 +7,7 @@ use Prim.Native.Nat.{ℕ, _≤_}
 use lib.Dec.{eqb}
 use lib.IntN.{ℤ}
 use lib.ListN.{length, take, drop}
+use Rattle.values.specs.Room.{Room}
 use Rattle.syntax.specs.Shape.{lineLimit}
 use Rattle.serial_port.specs.Port.{view, fresh}
 use Rattle.serial_port.specs.Call.{Answers}
@@ -28,11 +29,11 @@ pub record Made : Type 0 where
 
 -- calls that play bs from port p and values vs on: each is given what is left, the port and the values of the call before, and 64 bytes or more
 -- for its reply, and answers as promised; the last leaves nothing
-abbrev pub Plays : (table : List ℕ) → List Made → Port → List ℤ → List ℕ → Type 0
-Plays t [] p vs bs = bs ≡ []
-Plays t (c ∷ cs) p vs bs =
-    (replyLimit ≤ length (c .buffer)) × Answers t vs p bs (c .buffer) (c .answer) (c .values) (c .after)
-    × Plays t cs (c .answer .port) (c .values) (drop (c .answer .consumed) bs)
+abbrev pub Plays : Room → List Made → Port → List ℤ → List ℕ → Type 0
+Plays r [] p vs bs = bs ≡ []
+Plays r (c ∷ cs) p vs bs =
+    (replyLimit ≤ length (c .buffer)) × Answers r vs p bs (c .buffer) (c .answer) (c .values) (c .after)
+    × Plays r cs (c .answer .port) (c .values) (drop (c .answer .consumed) bs)
 
 -- the port and the values at the end
 unfoldable pub lastPort : List Made → Port → Port

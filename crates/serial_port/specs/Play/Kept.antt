@@ -8,6 +8,7 @@ use lib.Dec.{eqb}
 use lib.IntN.{ℤ}
 use lib.ListN.{length}
 use Rattle.text.specs.Cut.{has, before}
+use Rattle.values.specs.Room.{Room}
 use Rattle.syntax.specs.Shape.{lineLimit}
 use Rattle.line.specs.Answer.{answer}
 use Rattle.serial_port.specs.Server.{Server, controlSpace}
@@ -30,15 +31,15 @@ pub record Lowers {S : Type 0} (server : Server S) (Good : S → Type 0) (Φ : S
   pub overrun : (s : S) → Good s → Φ s ≤ 1 + Φ (server .overrun s .state)
 
 -- ControlSpace, by its answers: an overrun line changes nothing
-module _ (t : List ℕ) (Good : List ℤ → Type 0) where
-  pub answers-keep : ((vs : List ℤ) (l : List ℕ) → length l ≤ lineLimit → Good vs → Good (answer t vs l .values)) → Keeps (controlSpace t) Good
-  answers-keep h = record { line = λ vs l k g. rw (line-state t vs l) (h vs l k g); overrun = λ vs g. rw (overrun-state t vs) g }
+module _ (r : Room) (Good : List ℤ → Type 0) where
+  pub answers-keep : ((vs : List ℤ) (l : List ℕ) → length l ≤ lineLimit → Good vs → Good (answer r vs l .values)) → Keeps (controlSpace r) Good
+  answers-keep h = record { line = λ vs l k g. rw (line-state r vs l) (h vs l k g); overrun = λ vs g. rw (overrun-state r vs) g }
 
   pub answers-lower : (Φ : List ℤ → ℕ)
-      → ((vs : List ℤ) (l : List ℕ) → length l ≤ lineLimit → Good vs → Φ vs ≤ length l + 1 + Φ (answer t vs l .values))
-      → Lowers (controlSpace t) Good Φ
+      → ((vs : List ℤ) (l : List ℕ) → length l ≤ lineLimit → Good vs → Φ vs ≤ length l + 1 + Φ (answer r vs l .values))
+      → Lowers (controlSpace r) Good Φ
   answers-lower Φ h =
-      record { line = λ vs l k g. rw (line-state t vs l) (h vs l k g); overrun = λ vs g. rw (overrun-state t vs) (omega arith) }
+      record { line = λ vs l k g. rw (line-state r vs l) (h vs l k g); overrun = λ vs g. rw (overrun-state r vs) (omega arith) }
 
 module _ {S : Type 0} (server : Server S) (Good : S → Type 0) (keeps : Keeps server Good) where
   pub finish-keeps : (s : S) (v : View) → claim v ≤ lineLimit → Good s → Good (finish server s v .state)

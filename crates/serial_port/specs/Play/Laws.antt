@@ -13,6 +13,7 @@ use Rattle.syntax.specs.Shape.{lineLimit}
 use Rattle.spelling.specs.Acknowledgement.{nak}
 use Rattle.line.specs.Answer.Laws.{values-stay-sound}
 use Rattle.room.specs.Table.{sound}
+use Rattle.values.specs.Room.{Room}
 use Rattle.values.specs.Values.{valuesSound}
 use Rattle.serial_port.specs.Server.{Server, controlSpace}
 use Rattle.serial_port.specs.Server.Laws.{overrun-reply, overrun-state}
@@ -74,33 +75,33 @@ module _ {S : Type 0} (server : Server S) (Good : S → Type 0) (keeps : Keeps s
 
 -- ---- playing on a table
 
--- the values are right for the table t
-abbrev pub Right : List ℕ → List ℤ → Type 0
-Right t vs = valuesSound t vs ≡ true
+-- the values are right in the room r
+abbrev pub Right : Room → List ℤ → Type 0
+Right r vs = valuesSound r vs ≡ true
 
-pub keeps-right : (t : List ℕ) → sound t ≡ true → Keeps (controlSpace t) (Right t)
-keeps-right t s = answers-keep t (Right t) (λ vs l n r. values-stay-sound t vs l s r)
+pub keeps-right : (r : Room) → sound (r .table) ≡ true → Keeps (controlSpace r) (Right r)
+keeps-right r s = answers-keep r (Right r) (λ vs l n c. values-stay-sound r vs l s c)
 
 -- over a sound table and right values no call is refused, and playing is feeding byte by byte
-module _ (t : List ℕ) (is-sound : sound t ≡ true) (replyRooms : ℕ → ℕ) (enough : (call : ℕ) → replyLimit ≤ replyRooms call) where
-  serves : (call : ℕ) (vs : List ℤ) (v : View) → claim v ≤ lineLimit → Right t vs → refusal t replyRooms call vs v ≡ 0
+module _ (r : Room) (is-sound : sound (r .table) ≡ true) (replyRooms : ℕ → ℕ) (enough : (call : ℕ) → replyLimit ≤ replyRooms call) where
+  serves : (call : ℕ) (vs : List ℤ) (v : View) → claim v ≤ lineLimit → Right r vs → refusal r replyRooms call vs v ≡ 0
   unfolding refusal
-  serves call vs v k r = accepted t vs (replyRooms call) (claim v) is-sound r (enough call) k
+  serves call vs v k c = accepted r vs (replyRooms call) (claim v) is-sound c (enough call) k
 
-  pub plays-from : (v : View) (vs : List ℤ) (bs : List ℕ) → claim v ≤ lineLimit → Right t vs
-      → playFrom (controlSpace t) (refusal t replyRooms) 0 (length bs) v vs bs ≡ feed (controlSpace t) v vs bs
-  plays-from v vs bs k r = play-feed (controlSpace t) (Right t) (keeps-right t is-sound) (refusal t replyRooms) serves 0 (length bs) v vs bs (omega arith) k r
+  pub plays-from : (v : View) (vs : List ℤ) (bs : List ℕ) → claim v ≤ lineLimit → Right r vs
+      → playFrom (controlSpace r) (refusal r replyRooms) 0 (length bs) v vs bs ≡ feed (controlSpace r) v vs bs
+  plays-from v vs bs k c = play-feed (controlSpace r) (Right r) (keeps-right r is-sound) (refusal r replyRooms) serves 0 (length bs) v vs bs (omega arith) k c
 
-  pub plays : (vs : List ℤ) (bs : List ℕ) → Right t vs → play t replyRooms vs bs ≡ feed (controlSpace t) fresh vs bs
+  pub plays : (vs : List ℤ) (bs : List ℕ) → Right r vs → play r replyRooms vs bs ≡ feed (controlSpace r) fresh vs bs
   unfolding play
-  plays vs bs r = plays-from fresh vs bs fresh-few r
+  plays vs bs c = plays-from fresh vs bs fresh-few c
 
   -- no call of a play is refused
-  pub play-serves : (vs : List ℤ) (bs : List ℕ) → Right t vs → play t replyRooms vs bs .refused ≡ false
-  play-serves vs bs r = ap (λ p. p .refused) (plays vs bs r) ∙ feed-serves (controlSpace t) fresh vs bs
+  pub play-serves : (vs : List ℤ) (bs : List ℕ) → Right r vs → play r replyRooms vs bs .refused ≡ false
+  play-serves vs bs c = ap (λ p. p .refused) (plays vs bs c) ∙ feed-serves (controlSpace r) fresh vs bs
 
 -- a line of more than 64 bytes gets one 99, and what follows a fresh port
-pub overrun-told : (t : List ℕ) (vs : List ℤ) (l rest : List ℕ) → lineLimit < length l → has 0x0D l ≡ false
-    → feed (controlSpace t) fresh vs (l ++ 0x0D ∷ rest) ≡ replyFirst (nak 99) (feed (controlSpace t) fresh vs rest)
+pub overrun-told : (r : Room) (vs : List ℤ) (l rest : List ℕ) → lineLimit < length l → has 0x0D l ≡ false
+    → feed (controlSpace r) fresh vs (l ++ 0x0D ∷ rest) ≡ replyFirst (nak 99) (feed (controlSpace r) fresh vs rest)
 unfolding finished
-overrun-told t vs l rest k h = feed-overrun (controlSpace t) vs l rest k h ∙ rw (overrun-reply t vs, overrun-state t vs) refl
+overrun-told r vs l rest k h = feed-overrun (controlSpace r) vs l rest k h ∙ rw (overrun-reply r vs, overrun-state r vs) refl

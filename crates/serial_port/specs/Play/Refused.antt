@@ -7,6 +7,7 @@ use native.Mathlib.Omega.{arith}
 use lib.IntN.{ℤ}
 use lib.ListN.{length, drop}
 use Rattle.text.specs.Cut.{has}
+use Rattle.values.specs.Room.{Room}
 use Rattle.serial_port.specs.Server.{Server, controlSpace}
 use Rattle.serial_port.specs.Port.{View, fresh, claim}
 use Rattle.serial_port.specs.Call.{step}
@@ -41,13 +42,13 @@ module _ {S : Type 0} (server : Server S) (refusal : ℕ → S → View → ℕ)
       go true h = rw (e, h) refl
       go false h = rw (e, h) refl
 
-module _ (t : List ℕ) (replyRooms : ℕ → ℕ) (vs : List ℤ) (b : ℕ) (bs : List ℕ) where
+module _ (r : Room) (replyRooms : ℕ → ℕ) (vs : List ℤ) (b : ℕ) (bs : List ℕ) where
   -- of a play on a table: its first call is refused with a number other than 0
-  pub play-refused : (refusal t replyRooms 0 vs fresh ≡ 0 → ⊥) → play t replyRooms vs (b ∷ bs) .refused ≡ true
+  pub play-refused : (refusal r replyRooms 0 vs fresh ≡ 0 → ⊥) → play r replyRooms vs (b ∷ bs) .refused ≡ true
   unfolding play
-  play-refused h = first-refused (controlSpace t) (refusal t replyRooms) 0 fresh vs b bs (length (b ∷ bs)) h
+  play-refused h = first-refused (controlSpace r) (refusal r replyRooms) 0 fresh vs b bs (length (b ∷ bs)) h
 
   -- as where its reply buffer has under 64 bytes, whatever the table and the values are
-  pub short-refused : replyRooms 0 < replyLimit → play t replyRooms vs (b ∷ bs) .refused ≡ true
+  pub short-refused : replyRooms 0 < replyLimit → play r replyRooms vs (b ∷ bs) .refused ≡ true
   unfolding refusal replyLimit
-  short-refused h = play-refused (λ e. omega (arith, none-buffer t vs (replyRooms 0) (claim fresh) 0 (sym e) refl))
+  short-refused h = play-refused (λ e. omega (arith, none-buffer r vs (replyRooms 0) (claim fresh) 0 (sym e) refl))

@@ -8,6 +8,7 @@ use borrow.Author.Tests.{lt-ltb, le-ltb}
 use lib.Dec.{ltb}
 use lib.IntN.{ℤ}
 use lib.ListN.{length, drop, length-drop}
+use Rattle.values.specs.Room.{Room}
 use Rattle.serial_port.specs.Server.{controlSpace}
 use Rattle.serial_port.specs.Port.{View}
 use Rattle.serial_port.specs.Call.{step}
@@ -15,9 +16,9 @@ use Rattle.serial_port.specs.Refusal.{replyLimit}
 use Rattle.serial_port.specs.Stream.{consumes}
 use Rattle.serial_port.specs.Call.Accepted.{consumed-some}
 
-module _ (t : List ℕ) where
+module _ (r : Room) where
   -- as many calls as there are bytes are enough
-  enough : (m n : ℕ) (vs : List ℤ) (v : View) (bs : List ℕ) (room : ℕ) → length bs ≤ m → length bs ≤ n → consumes m t vs v bs room ≡ consumes n t vs v bs room
+  enough : (m n : ℕ) (vs : List ℤ) (v : View) (bs : List ℕ) (room : ℕ) → length bs ≤ m → length bs ≤ n → consumes m r vs v bs room ≡ consumes n r vs v bs room
   unfolding consumes
   enough zero zero vs v bs room h k = refl
   enough zero (suc n) vs v [] room h k = refl
@@ -26,19 +27,19 @@ module _ (t : List ℕ) where
   enough (suc m) zero vs v (b ∷ bs) room h k = absurd (omega arith)
   enough (suc m) (suc n) vs v [] room h k = refl
   enough (suc m) (suc n) vs v (b ∷ bs) room h k =
-      let s = step (controlSpace t) vs v (b ∷ bs) in
-      let some = consumed-some (controlSpace t) v vs (b ∷ bs) (omega arith) in
+      let s = step (controlSpace r) vs v (b ∷ bs) in
+      let some = consumed-some (controlSpace r) v vs (b ∷ bs) (omega arith) in
       let left : length (drop (s .consumed) (b ∷ bs)) ≤ length bs = rw (length-drop (s .consumed) (b ∷ bs)) (omega arith) in
       ap (λ (k : ℕ). cond (ltb room replyLimit) 0 (s .consumed + k))
       (enough m n (s .state) (s .port) (drop (s .consumed) (b ∷ bs)) (room - length (s .reply)) (omega arith) (omega arith))
 
-  pub none-left : (m : ℕ) (vs : List ℤ) (v : View) (bs : List ℕ) (room : ℕ) → length bs ≤ 0 → consumes m t vs v bs room ≡ 0
+  pub none-left : (m : ℕ) (vs : List ℤ) (v : View) (bs : List ℕ) (room : ℕ) → length bs ≤ 0 → consumes m r vs v bs room ≡ 0
   unfolding consumes
   none-left zero vs v bs room h = refl
   none-left (suc m) vs v [] room h = refl
   none-left (suc m) vs v (b ∷ bs) room h = absurd (omega arith)
 
-  pub no-room : (m : ℕ) (vs : List ℤ) (v : View) (bs : List ℕ) (room : ℕ) → room < 64 → consumes m t vs v bs room ≡ 0
+  pub no-room : (m : ℕ) (vs : List ℤ) (v : View) (bs : List ℕ) (room : ℕ) → room < 64 → consumes m r vs v bs room ≡ 0
   unfolding consumes replyLimit
   no-room zero vs v bs room h = refl
   no-room (suc m) vs v [] room h = refl
@@ -46,14 +47,14 @@ module _ (t : List ℕ) where
 
   -- one call, and then the rest
   pub one-more : (vs : List ℤ) (v : View) (bs : List ℕ) (room : ℕ) → 1 ≤ length bs → 64 ≤ room
-      → consumes (length bs) t vs v bs room
-      ≡ step (controlSpace t) vs v bs .consumed + consumes (length bs - step (controlSpace t) vs v bs .consumed) t (step (controlSpace t) vs v bs .state) (step (controlSpace t) vs v bs .port)
-      (drop (step (controlSpace t) vs v bs .consumed) bs) (room - length (step (controlSpace t) vs v bs .reply))
+      → consumes (length bs) r vs v bs room
+      ≡ step (controlSpace r) vs v bs .consumed + consumes (length bs - step (controlSpace r) vs v bs .consumed) r (step (controlSpace r) vs v bs .state) (step (controlSpace r) vs v bs .port)
+      (drop (step (controlSpace r) vs v bs .consumed) bs) (room - length (step (controlSpace r) vs v bs .reply))
   unfolding consumes replyLimit
   one-more vs v [] room h k = absurd (omega arith)
   one-more vs v (b ∷ bs) room h k =
-      let s = step (controlSpace t) vs v (b ∷ bs) in
-      let some = consumed-some (controlSpace t) v vs (b ∷ bs) (omega arith) in
+      let s = step (controlSpace r) vs v (b ∷ bs) in
+      let some = consumed-some (controlSpace r) v vs (b ∷ bs) (omega arith) in
       let long = length-drop (s .consumed) (b ∷ bs) in
       rw (le-ltb room 64 k)
       (ap (λ (k : ℕ). s .consumed + k)

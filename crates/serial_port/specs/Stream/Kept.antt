@@ -5,6 +5,7 @@ use mathlib.Core.List.{List}
 use Prim.Native.Nat.{ℕ, _≤_}
 use lib.IntN.{ℤ}
 use Rattle.room.specs.Table.{sound}
+use Rattle.values.specs.Room.{Room}
 use Rattle.syntax.specs.Shape.{lineLimit}
 use Rattle.serial_port.specs.Server.{controlSpace}
 use Rattle.serial_port.specs.Port.{View, view}
@@ -15,10 +16,10 @@ use Rattle.serial_port.specs.Play.Laws.{Right, keeps-right}
 use Rattle.serial_port.specs.Stream.{flow}
 use Rattle.serial_port.specs.declared.port.Port.{Port}
 
-module _ (t : List ℕ) (vs : List ℤ) (is-sound : sound t ≡ true) (r : Right t vs) where
-  pub step-right : (v : View) (bs : List ℕ) → Right t (step (controlSpace t) vs v bs .state)
-  step-right v bs = step-keeps (controlSpace t) (Right t) (keeps-right t is-sound) v vs bs r
+module _ (r : Room) (vs : List ℤ) (is-sound : sound (r .table) ≡ true) (g : Right r vs) where
+  pub step-right : (v : View) (bs : List ℕ) → Right r (step (controlSpace r) vs v bs .state)
+  step-right v bs = step-keeps (controlSpace r) (Right r) (keeps-right r is-sound) v vs bs g
 
-  pub flow-right : (p : Port) → p .len ≤ 64 → (bs : List ℕ) → Right t (flow t vs p bs .state)
+  pub flow-right : (p : Port) → p .len ≤ 64 → (bs : List ℕ) → Right r (flow r vs p bs .state)
   unfolding flow lineLimit
-  flow-right p k bs = feed-keeps (controlSpace t) (Right t) (keeps-right t is-sound) (view p) vs bs (claim-view p k) r
+  flow-right p k bs = feed-keeps (controlSpace r) (Right r) (keeps-right r is-sound) (view p) vs bs (claim-view p k) g

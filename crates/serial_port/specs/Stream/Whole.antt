@@ -11,6 +11,7 @@ use lib.ListN.{length, take, drop, length-drop}
 use lib.Seq.{take-length}
 use Rattle.text.specs.Written.{Wrote}
 use Rattle.room.specs.Table.{sound}
+use Rattle.values.specs.Room.{Room}
 use Rattle.values.specs.Values.{valuesSound}
 use Rattle.syntax.specs.Shape.{lineLimit}
 use Rattle.serial_port.specs.Server.{controlSpace}
@@ -24,39 +25,39 @@ use Rattle.serial_port.specs.Stream.Kept.{step-right}
 use Rattle.serial_port.specs.declared.port.Port.{Port}
 use Rattle.serial_port.specs.declared.stream.Served.{Served}
 
-module _ (t : List ℕ) (is-sound : sound t ≡ true) where
-  consumes-all : (calls : ℕ) (vs : List ℤ) (v : View) (bs : List ℕ) (room : ℕ) → length bs ≤ calls → Right t vs → 64 * length bs ≤ room
-      → consumes calls t vs v bs room ≡ length bs
+module _ (r : Room) (is-sound : sound (r .table) ≡ true) where
+  consumes-all : (calls : ℕ) (vs : List ℤ) (v : View) (bs : List ℕ) (room : ℕ) → length bs ≤ calls → Right r vs → 64 * length bs ≤ room
+      → consumes calls r vs v bs room ≡ length bs
   unfolding consumes replyLimit
-  consumes-all zero vs v bs room n r h = omega arith
-  consumes-all (suc calls) vs v [] room n r h = refl
-  consumes-all (suc calls) vs v (b ∷ bs) room n r h =
-      let s = step (controlSpace t) vs v (b ∷ bs) in
-      let most = consumed-most (controlSpace t) v vs (b ∷ bs) in
-      let some = consumed-some (controlSpace t) v vs (b ∷ bs) (omega arith) in
-      let few = step-fits t vs v (b ∷ bs) is-sound r in
+  consumes-all zero vs v bs room n g h = omega arith
+  consumes-all (suc calls) vs v [] room n g h = refl
+  consumes-all (suc calls) vs v (b ∷ bs) room n g h =
+      let s = step (controlSpace r) vs v (b ∷ bs) in
+      let most = consumed-most (controlSpace r) v vs (b ∷ bs) in
+      let some = consumed-some (controlSpace r) v vs (b ∷ bs) (omega arith) in
+      let few = step-fits r vs v (b ∷ bs) is-sound g in
       let left = length-drop (s .consumed) (b ∷ bs) in
-      let right = step-right t vs is-sound r v (b ∷ bs) in
+      let right = step-right r vs is-sound g v (b ∷ bs) in
       let rest = consumes-all calls (s .state) (s .port) (drop (s .consumed) (b ∷ bs)) (room - length (s .reply)) (omega arith) right (omega arith) in
       rw (le-ltb room 64 (omega arith)) (omega arith)
 
-  pub all-consumed : (vs : List ℤ) (v : View) (bs : List ℕ) (room : ℕ) → valuesSound t vs ≡ true → 64 * length bs ≤ room
-      → consumes (length bs) t vs v bs room ≡ length bs
-  all-consumed vs v bs room r h = consumes-all (length bs) vs v bs room (omega arith) r h
+  pub all-consumed : (vs : List ℤ) (v : View) (bs : List ℕ) (room : ℕ) → valuesSound r vs ≡ true → 64 * length bs ≤ room
+      → consumes (length bs) r vs v bs room ≡ length bs
+  all-consumed vs v bs room g h = consumes-all (length bs) vs v bs room (omega arith) g h
 
 -- so the replies, the values and the port are those of all bytes
-module _ (t : List ℕ) (vs : List ℤ) (p : Port) (bs out : List ℕ) (s : Served) (vs′ : List ℤ) (out′ : List ℕ) (is-sound : sound t ≡ true)
-    (r : valuesSound t vs ≡ true) (h : 64 * length bs ≤ length out) (a : Serves t vs p bs out s vs′ out′) where
+module _ (r : Room) (vs : List ℤ) (p : Port) (bs out : List ℕ) (s : Served) (vs′ : List ℤ) (out′ : List ℕ) (is-sound : sound (r .table) ≡ true)
+    (g : valuesSound r vs ≡ true) (h : 64 * length bs ≤ length out) (a : Serves r vs p bs out s vs′ out′) where
   whole : take (s .consumed) bs ≡ bs
-  whole = rw (a .consumed, all-consumed t is-sound vs (view p) bs (length out) r h) (take-length bs)
+  whole = rw (a .consumed, all-consumed r is-sound vs (view p) bs (length out) g h) (take-length bs)
 
-  pub whole-replies : Wrote out 0 (joined (flow t vs p bs .replies)) (s .sent) out′
+  pub whole-replies : Wrote out 0 (joined (flow r vs p bs .replies)) (s .sent) out′
   whole-replies = rw whole at (a .replies)
 
-  pub whole-values : vs′ ≡ flow t vs p bs .state
+  pub whole-values : vs′ ≡ flow r vs p bs .state
   whole-values = rw whole at (a .values)
 
-  pub whole-seen : view (s .port) ≡ flow t vs p bs .port
+  pub whole-seen : view (s .port) ≡ flow r vs p bs .port
   whole-seen = rw whole at (a .seen)
 
   -- the next call may be given the port

@@ -3,12 +3,13 @@ use Prim.Native.Nat.{_-_}
 use borrow.Author.Needs.{needs}
 use lib.ListN.{length}
 use Rattle.room.specs.Table.Walk.{walking}
+use Rattle.values.specs.Room.{roomOf}
 use Rattle.values.specs.Values.Fitting.{Fitting, fitting}
 use Rattle.values.proofs.are_sound.Statement.{statement}
 use Rattle.values.proofs.are_sound.Tie as tie
 
 abbrev Inv-loop : tie.InvT-loop
-Inv-loop table rows values number₀ place₀ first₀ number place first = Fitting table values number place first
+Inv-loop table rows values number₀ place₀ first₀ number place first = Fitting (roomOf table) values number place first
 
 abbrev μ-loop : tie.MeasureT-loop
 μ-loop table rows values number₀ place₀ first₀ number place first = length table - place

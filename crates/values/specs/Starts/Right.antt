@@ -12,6 +12,8 @@ use Rattle.catalogue.specs.Catalogue.Starts.{catalogue-starts, startRight}
 use Rattle.values.specs.Parameters.{parameterAt, parameters}
 use Rattle.values.specs.Parameters.Each.{every-parameter}
 use Rattle.room.specs.Table.{sound}
+use Rattle.values.specs.Room.{Room, roomOf}
+use Rattle.values.specs.Room.Laws.{row-in-own}
 use Rattle.values.specs.Values.{eachPermitted, valueLimit, valuesSound}
 use Rattle.values.specs.Values.Few.{parameters-few}
 use Rattle.values.specs.Starts.{Started, starts, startsOf}
@@ -24,15 +26,16 @@ starts-few t h = omega (arith, length-starts t, parameters-few t h)
 
 -- ---- that each is permitted
 
-each-start : (ps : List Parameter) → ((k : ℕ) (p : Parameter) → parameterAt ps k ≡ At p → startRight (p .row) ≡ true) → eachPermitted ps (startsOf ps) ≡ true
+each-start : (r : Room) (ps : List Parameter) → ((k : ℕ) (p : Parameter) → parameterAt ps k ≡ At p → startRight (p .row) ≡ true) → eachPermitted r ps (startsOf ps) ≡ true
 unfolding eachPermitted startsOf parameterAt
-each-start [] h = refl
-each-start (p ∷ ps) h = rw (h 0 p refl) (each-start ps (λ k q e. h (suc k) q e))
+each-start r [] h = refl
+each-start r (p ∷ ps) h = rw (row-in-own r p, h 0 p refl) (each-start r ps (λ k q e. h (suc k) q e))
 
-pub starts-right : (t : List ℕ) → valuesSound t (starts t) ≡ true
+pub starts-right : (t : List ℕ) → valuesSound (roomOf t) (starts t) ≡ true
 unfolding valuesSound
 starts-right t =
-    let each : eachPermitted (parameters t) (starts t) ≡ true = unfold starts in each-start (parameters t) (every-parameter startRight catalogue-starts t) in
+    let each : eachPermitted (roomOf t) (parameters t) (starts t) ≡ true =
+    unfold starts in each-start (roomOf t) (parameters t) (every-parameter startRight catalogue-starts t) in
     rw (eq-eqb (length (starts t)) (length (parameters t)) (length-starts t)) each
 
 -- ---- a list that they were put into
@@ -48,7 +51,7 @@ module _ (t : List ℕ) (before : List ℤ) (n : ℕ) (after : List ℤ) (s : St
   pub started-within : n ≤ length after
   started-within = omega (arith, s .count, ap length (s .list), length-append (starts t) (drop (length (starts t)) before))
 
-  pub started-right : valuesSound t (take n after) ≡ true
+  pub started-right : valuesSound (roomOf t) (take n after) ≡ true
   started-right = rw started-first (starts-right t)
 
 pub ruleset started = (starts-room, started-within, started-right)

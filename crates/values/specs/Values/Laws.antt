@@ -12,6 +12,7 @@ use Rattle.text.specs.Every.Laws.{both-left, both-right}
 use Rattle.values.specs.Parameters.{parameters, parameterAt}
 use Rattle.values.specs.Parameters.Places.{found-same, never-found}
 use Rattle.catalogue.specs.Row.{permitted}
+use Rattle.values.specs.Room.{Room, rowIn}
 use Rattle.values.specs.Values.{eachPermitted, equal, valuesSound}
 use Rattle.values.specs.Values.Each.{Tests}
 use Rattle.values.specs.Values.Tested.{tested-all, tested-at}
@@ -30,49 +31,51 @@ equal-true (pos m) (negsuc n) e = absurd (true≢false (sym e))
 equal-true (negsuc m) (pos n) e = absurd (true≢false (sym e))
 equal-true (negsuc m) (negsuc n) e = ap negsuc (eqb-true m n e)
 
--- each value is tested by its parameter's row
-pub each-tests : Tests eachPermitted (λ p v. permitted (p .row) v)
+-- each value is tested by the row by which it is judged
+pub each-tests : (r : Room) → Tests (eachPermitted r) (λ p v. permitted (rowIn r p) v)
 unfolding eachPermitted
-each-tests = record { none = λ vs. refl; one = λ p ps v vs. refl }
+each-tests r = record { none = λ vs. refl; one = λ p ps v vs. refl }
 
 -- right values are as many as the parameters, and each is permitted
-pub values-many : (t : List ℕ) (vs : List ℤ) → valuesSound t vs ≡ true → length vs ≡ length (parameters t)
+pub values-many : (r : Room) (vs : List ℤ) → valuesSound r vs ≡ true → length vs ≡ length (parameters (r .table))
 unfolding valuesSound
-values-many t vs r = eqb-true (length vs) (length (parameters t)) (both-left (eqb (length vs) (length (parameters t))) (eachPermitted (parameters t) vs) r)
+values-many r vs s =
+    eqb-true (length vs) (length (parameters (r .table)))
+    (both-left (eqb (length vs) (length (parameters (r .table)))) (eachPermitted r (parameters (r .table)) vs) s)
 
-pub values-each : (t : List ℕ) (vs : List ℤ) → valuesSound t vs ≡ true → eachPermitted (parameters t) vs ≡ true
+pub values-each : (r : Room) (vs : List ℤ) → valuesSound r vs ≡ true → eachPermitted r (parameters (r .table)) vs ≡ true
 unfolding valuesSound
-values-each t vs r = both-right (eqb (length vs) (length (parameters t))) (eachPermitted (parameters t) vs) r
+values-each r vs s = both-right (eqb (length vs) (length (parameters (r .table)))) (eachPermitted r (parameters (r .table)) vs) s
 
-pub values-right : (t : List ℕ) (vs : List ℤ) → length vs ≡ length (parameters t) → eachPermitted (parameters t) vs ≡ true → valuesSound t vs ≡ true
+pub values-right : (r : Room) (vs : List ℤ) → length vs ≡ length (parameters (r .table)) → eachPermitted r (parameters (r .table)) vs ≡ true → valuesSound r vs ≡ true
 unfolding valuesSound
-values-right t vs n e = rw (eq-eqb (length vs) (length (parameters t)) n) e
+values-right r vs n e = rw (eq-eqb (length vs) (length (parameters (r .table))) n) e
 
 -- a value that is permitted may be put at its parameter's place
-each-set : (ps : List Parameter) (vs : List ℤ) (k : ℕ) (p : Parameter) (x : ℤ) → parameterAt ps k ≡ At p → permitted (p .row) x ≡ true
-    → eachPermitted ps vs ≡ true → eachPermitted ps (set vs k x) ≡ true
+each-set : (r : Room) (ps : List Parameter) (vs : List ℤ) (k : ℕ) (p : Parameter) (x : ℤ) → parameterAt ps k ≡ At p → permitted (rowIn r p) x ≡ true
+    → eachPermitted r ps vs ≡ true → eachPermitted r ps (set vs k x) ≡ true
 unfolding eachPermitted parameterAt
-each-set [] vs k p x e h v = refl
-each-set (q ∷ ps) [] k p x e h v = refl
-each-set (q ∷ ps) (w ∷ vs) zero p x e h v =
-    let s : permitted (q .row) x ≡ true = ap (λ r. permitted (r .row) x) (found-same q p e) ∙ h in
-    rw s (both-right (permitted (q .row) w) (eachPermitted ps vs) v)
-each-set (q ∷ ps) (w ∷ vs) (suc k) p x e h v =
-    rw (both-left (permitted (q .row) w) (eachPermitted ps vs) v) (each-set ps vs k p x e h (both-right (permitted (q .row) w) (eachPermitted ps vs) v))
+each-set r [] vs k p x e h v = refl
+each-set r (q ∷ ps) [] k p x e h v = refl
+each-set r (q ∷ ps) (w ∷ vs) zero p x e h v =
+    let s : permitted (rowIn r q) x ≡ true = ap (λ o. permitted (rowIn r o) x) (found-same q p e) ∙ h in
+    rw s (both-right (permitted (rowIn r q) w) (eachPermitted r ps vs) v)
+each-set r (q ∷ ps) (w ∷ vs) (suc k) p x e h v =
+    rw (both-left (permitted (rowIn r q) w) (eachPermitted r ps vs) v) (each-set r ps vs k p x e h (both-right (permitted (rowIn r q) w) (eachPermitted r ps vs) v))
 
-pub set-sound : (t : List ℕ) (vs : List ℤ) (k : ℕ) (p : Parameter) (x : ℤ) → parameterAt (parameters t) k ≡ At p → permitted (p .row) x ≡ true
-    → valuesSound t vs ≡ true → valuesSound t (set vs k x) ≡ true
-set-sound t vs k p x e h v =
-    values-right t (set vs k x) (length-set vs k x ∙ values-many t vs v) (each-set (parameters t) vs k p x e h (values-each t vs v))
+pub set-sound : (r : Room) (vs : List ℤ) (k : ℕ) (p : Parameter) (x : ℤ) → parameterAt (parameters (r .table)) k ≡ At p → permitted (rowIn r p) x ≡ true
+    → valuesSound r vs ≡ true → valuesSound r (set vs k x) ≡ true
+set-sound r vs k p x e h v =
+    values-right r (set vs k x) (length-set vs k x ∙ values-many r vs v) (each-set r (parameters (r .table)) vs k p x e h (values-each r vs v))
 
--- the value at a parameter's place is permitted for its row, and a list of such values is right
-pub value-permitted : (t : List ℕ) (vs : List ℤ) (k : ℕ) (p : Parameter) → valuesSound t vs ≡ true → parameterAt (parameters t) k ≡ At p
-    → permitted (p .row) (getD vs k (pos 0)) ≡ true
-value-permitted t vs k p v e = tested-at each-tests (parameters t) vs k p (omega (arith, values-many t vs v)) (values-each t vs v) e
+-- the value at a parameter's place is permitted in the room, and a list of such values is right
+pub value-permitted : (r : Room) (vs : List ℤ) (k : ℕ) (p : Parameter) → valuesSound r vs ≡ true → parameterAt (parameters (r .table)) k ≡ At p
+    → permitted (rowIn r p) (getD vs k (pos 0)) ≡ true
+value-permitted r vs k p v e = tested-at (each-tests r) (parameters (r .table)) vs k p (omega (arith, values-many r vs v)) (values-each r vs v) e
 
-pub values-permitted : (t : List ℕ) (vs : List ℤ) → length vs ≡ length (parameters t)
-    → ((k : ℕ) (p : Parameter) → parameterAt (parameters t) k ≡ At p → permitted (p .row) (getD vs k (pos 0)) ≡ true) → valuesSound t vs ≡ true
-values-permitted t vs n h = values-right t vs n (tested-all each-tests (parameters t) vs (omega arith) h)
+pub values-permitted : (r : Room) (vs : List ℤ) → length vs ≡ length (parameters (r .table))
+    → ((k : ℕ) (p : Parameter) → parameterAt (parameters (r .table)) k ≡ At p → permitted (rowIn r p) (getD vs k (pos 0)) ≡ true) → valuesSound r vs ≡ true
+values-permitted r vs n h = values-right r vs n (tested-all (each-tests r) (parameters (r .table)) vs (omega arith) h)
 
 -- a parameter's place is a place of the value list
 pub at-inside : (ps : List Parameter) (k : ℕ) (p : Parameter) → parameterAt ps k ≡ At p → k < length ps
@@ -81,5 +84,5 @@ at-inside [] k p e = never-found p e
 at-inside (q ∷ ps) zero p e = omega arith
 at-inside (q ∷ ps) (suc k) p e = let l = at-inside ps k p e in omega arith
 
-pub value-inside : (t : List ℕ) (vs : List ℤ) (k : ℕ) (p : Parameter) → valuesSound t vs ≡ true → parameterAt (parameters t) k ≡ At p → k < length vs
-value-inside t vs k p v e = omega (arith, values-many t vs v, at-inside (parameters t) k p e)
+pub value-inside : (r : Room) (vs : List ℤ) (k : ℕ) (p : Parameter) → valuesSound r vs ≡ true → parameterAt (parameters (r .table)) k ≡ At p → k < length vs
+value-inside r vs k p v e = omega (arith, values-many r vs v, at-inside (parameters (r .table)) k p e)

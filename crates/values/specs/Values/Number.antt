@@ -2,30 +2,30 @@
 use mathlib.Core.Path.{_≡_, sym, _∙_}
 use mathlib.Core.Bool.{Bool, true, false}
 use mathlib.Core.List.{List}
-use Prim.Native.Nat.{ℕ}
 use lib.IntN.{ℤ}
 use Rattle.room.specs.Refusal.Laws.{test-passed, test-refused, passed-test}
+use Rattle.values.specs.Room.{Room}
 use Rattle.values.specs.Values.{valuesNumber, valuesSound}
 
-module _ (t : List ℕ) (vs : List ℤ) where
-  pub values-passed : valuesSound t vs ≡ true → valuesNumber t vs ≡ 0
+module _ (r : Room) (vs : List ℤ) where
+  pub values-passed : valuesSound r vs ≡ true → valuesNumber r vs ≡ 0
   unfolding valuesNumber
-  values-passed r = test-passed (valuesSound t vs) 2 r
+  values-passed h = test-passed (valuesSound r vs) 2 h
 
-  pub values-refused : valuesSound t vs ≡ false → valuesNumber t vs ≡ 2
+  pub values-refused : valuesSound r vs ≡ false → valuesNumber r vs ≡ 2
   unfolding valuesNumber
-  values-refused r = test-refused (valuesSound t vs) 2 r
+  values-refused h = test-refused (valuesSound r vs) 2 h
 
-  pub passed-values : valuesNumber t vs ≡ 0 → valuesSound t vs ≡ true
+  pub passed-values : valuesNumber r vs ≡ 0 → valuesSound r vs ≡ true
   unfolding valuesNumber
-  passed-values e = passed-test (valuesSound t vs) 1 e
+  passed-values e = passed-test (valuesSound r vs) 1 e
 
   -- the number that code tells, by the test that it made
 
-  pub number-right : (b : Bool) → b ≡ valuesSound t vs → b ≡ true → 0 ≡ valuesNumber t vs
+  pub number-right : (b : Bool) → b ≡ valuesSound r vs → b ≡ true → 0 ≡ valuesNumber r vs
   number-right b e h = sym (values-passed (sym e ∙ h))
 
-  pub number-wrong : (b : Bool) → b ≡ valuesSound t vs → b ≡ false → 2 ≡ valuesNumber t vs
+  pub number-wrong : (b : Bool) → b ≡ valuesSound r vs → b ≡ false → 2 ≡ valuesNumber r vs
   number-wrong b e h = sym (values-refused (sym e ∙ h))
 
 pub ruleset numbering = (number-right, number-wrong)

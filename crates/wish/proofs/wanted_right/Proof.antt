@@ -3,12 +3,13 @@ use Prim.Native.Nat.{_-_}
 use borrow.Author.Needs.{needs}
 use lib.ListN.{length}
 use Rattle.room.specs.Table.Walk.{walking}
+use Rattle.values.specs.Room.{roomOf}
 use Rattle.wish.specs.Target.Wanting.{Wanting, wanting, wanting-on}
 use Rattle.wish.proofs.wanted_right.Statement.{statement}
 use Rattle.wish.proofs.wanted_right.Tie as tie
 
 abbrev Inv-loop : tie.InvT-loop
-Inv-loop table rows selection wanted number₀ place₀ first₀ number place first = Wanting table selection wanted number place first
+Inv-loop table rows selection wanted number₀ place₀ first₀ number place first = Wanting (roomOf table) selection wanted number place first
 
 abbrev μ-loop : tie.MeasureT-loop
 μ-loop table rows selection wanted number₀ place₀ first₀ number place first = length table - place

@@ -16,18 +16,18 @@ module _ (w : Wish) (buffer : List ℕ) where
   unfolding restore tell
   told-number = go (restoreNumber w (length buffer))
     where
-      go : (n : ℕ) → tell (w .table) n buffer (changes w) .number ≡ n
+      go : (n : ℕ) → tell (w .room .table) n buffer (changes w) .number ≡ n
       go zero = refl
       go (suc n) = refl
 
   pub told-admits : (restore w buffer .number ≡ 1 → ⊥) → (restore w buffer .number ≡ 2 → ⊥) → (restore w buffer .number ≡ 5 → ⊥)
       → (restore w buffer .number ≡ 6 → ⊥) → Admitted w
   told-admits one two five six =
-      go (sound (w .table)) (valuesSound (w .table) (w .present)) (selectionRight (w .table) (w .selection))
-      (wantedRight (w .table) (w .selection) (w .wanted)) refl refl refl refl
+      go (sound (w .room .table)) (valuesSound (w .room) (w .present)) (selectionRight (w .room .table) (w .selection))
+      (wantedRight (w .room) (w .selection) (w .wanted)) refl refl refl refl
     where
-      go : (a b c d : Bool) → sound (w .table) ≡ a → valuesSound (w .table) (w .present) ≡ b → selectionRight (w .table) (w .selection) ≡ c
-          → wantedRight (w .table) (w .selection) (w .wanted) ≡ d → Admitted w
+      go : (a b c d : Bool) → sound (w .room .table) ≡ a → valuesSound (w .room) (w .present) ≡ b → selectionRight (w .room .table) (w .selection) ≡ c
+          → wantedRight (w .room) (w .selection) (w .wanted) ≡ d → Admitted w
       go false b c d e f g i = absurd (one (told-number ∙ number-table w (length buffer) e))
       go true false c d e f g i = absurd (two (told-number ∙ number-present w (length buffer) e f))
       go true true false d e f g i = absurd (five (told-number ∙ number-selection w (length buffer) e f g))

@@ -59,6 +59,6 @@ beyond t (p ∷ ps) (v ∷ vs) (x ∷ xs) e = go (equal v x) (reachable t p) ref
         }
 
 -- of a wish
-pub wish-beyond : (w : Wish) → allReachable (w .table) (changes w) ≡ false → Beyond (w .table) (parameters (w .table)) (w .present) (target w)
+pub wish-beyond : (w : Wish) → allReachable (w .room .table) (changes w) ≡ false → Beyond (w .room .table) (parameters (w .room .table)) (w .present) (target w)
 unfolding changes
-wish-beyond w e = beyond (w .table) (parameters (w .table)) (w .present) (target w) e
+wish-beyond w e = beyond (w .room .table) (parameters (w .room .table)) (w .present) (target w) e

@@ -30,6 +30,6 @@ changes-differing selection (p ∷ ps) (v ∷ vs) (w ∷ ws) = go (chosen select
     go true false q h = rw q (ap suc h)
     go false e q h = rw (equal-refl v) h
 
-pub lines-differing : (w : Wish) → length (changes w) ≡ differing (w .selection) (parameters (w .table)) (w .present) (w .wanted)
+pub lines-differing : (w : Wish) → length (changes w) ≡ differing (w .selection) (parameters (w .room .table)) (w .present) (w .wanted)
 unfolding changes target
-lines-differing w = changes-differing (w .selection) (parameters (w .table)) (w .present) (w .wanted)
+lines-differing w = changes-differing (w .selection) (parameters (w .room .table)) (w .present) (w .wanted)

@@ -41,11 +41,11 @@ changes-differ (p ∷ ps) (v ∷ vs) (x ∷ xs) a b = go (equal v x) refl (chang
     go false q d = other p v x q d
 
 -- those of a wish
-pub wish-differ : (w : Wish) → Admitted w → Differ (parameters (w .table)) (w .present) (target w) (changes w)
+pub wish-differ : (w : Wish) → Admitted w → Differ (parameters (w .room .table)) (w .present) (target w) (changes w)
 unfolding changes
 wish-differ w a =
-    changes-differ (parameters (w .table)) (w .present) (target w) (values-many (w .table) (w .present) (a .present))
-    (values-many (w .table) (target w) (target-right w (a .present) (a .wanted)))
+    changes-differ (parameters (w .room .table)) (w .present) (target w) (values-many (w .room) (w .present) (a .present))
+    (values-many (w .room) (target w) (target-right w (a .present) (a .wanted)))
 
 -- ---- what holds of each parameter with its two values holds of each change
 
@@ -87,4 +87,4 @@ made-behind (other p v x {ps = ps} {vs = vs} {xs = xs} n d) before f =
 
 -- a wish's changes lead from the present values to the target
 pub made-target : (w : Wish) → Admitted w → made (changes w) (w .present) ≡ target w
-made-target w a = made-behind (wish-differ w a) [] (λ k p e. at-place (w .table) k p e .stands ∙ sym (zero-add k))
+made-target w a = made-behind (wish-differ w a) [] (λ k p e. at-place (w .room .table) k p e .stands ∙ sym (zero-add k))

@@ -11,6 +11,7 @@ use Rattle.room.specs.Refusal.{firstRefusal}
 use Rattle.room.specs.Refusal.Laws.{all, passes, stops, all-passed, first-append, first-by, first-passed, first-stops, test-passed, test-refused, passed-test}
 use Rattle.room.specs.Table.{sound}
 use Rattle.room.specs.Table.Number.{passed-table, table-passed, table-refused}
+use Rattle.values.specs.Room.{Room}
 use Rattle.values.specs.Values.{valuesSound}
 use Rattle.values.specs.Values.Number.{passed-values, values-passed, values-refused}
 use Rattle.wish.specs.Target.{Wish, selectionRight, wantedRight}
@@ -31,18 +32,18 @@ module _ (t selection : List ℕ) where
   unfolding selectionNumber
   passed-selection e = passed-test (selectionRight t selection) 4 e
 
-module _ (t selection : List ℕ) (ws : List ℤ) where
-  pub wanted-passed : wantedRight t selection ws ≡ true → wantedNumber t selection ws ≡ 0
+module _ (r : Room) (selection : List ℕ) (ws : List ℤ) where
+  pub wanted-passed : wantedRight r selection ws ≡ true → wantedNumber r selection ws ≡ 0
   unfolding wantedNumber
-  wanted-passed d = test-passed (wantedRight t selection ws) 6 d
+  wanted-passed d = test-passed (wantedRight r selection ws) 6 d
 
-  pub wanted-refused : wantedRight t selection ws ≡ false → wantedNumber t selection ws ≡ 6
+  pub wanted-refused : wantedRight r selection ws ≡ false → wantedNumber r selection ws ≡ 6
   unfolding wantedNumber
-  wanted-refused d = test-refused (wantedRight t selection ws) 6 d
+  wanted-refused d = test-refused (wantedRight r selection ws) 6 d
 
-  pub passed-wanted : wantedNumber t selection ws ≡ 0 → wantedRight t selection ws ≡ true
+  pub passed-wanted : wantedNumber r selection ws ≡ 0 → wantedRight r selection ws ≡ true
   unfolding wantedNumber
-  passed-wanted e = passed-test (wantedRight t selection ws) 5 e
+  passed-wanted e = passed-test (wantedRight r selection ws) 5 e
 
 module _ (t : List ℕ) (cs : List Change) where
   reach-passed : allReachable t cs ≡ true → reachNumber t cs ≡ 0
@@ -78,19 +79,19 @@ module _ (w : Wish) where
       let c = all-passed _ _ (b .1) in
       let d = all-passed _ _ (c .1) in
       record {
-        table = passed-table (w .table) (a .0);
-        present = passed-values (w .table) (w .present) (b .0);
-        selection = passed-selection (w .table) (w .selection) (c .0);
-        wanted = passed-wanted (w .table) (w .selection) (w .wanted) (d .0);
+        table = passed-table (w .room .table) (a .0);
+        present = passed-values (w .room) (w .present) (b .0);
+        selection = passed-selection (w .room .table) (w .selection) (c .0);
+        wanted = passed-wanted (w .room) (w .selection) (w .wanted) (d .0);
       }
 
   admits-test : Admitted w → testNumber w ≡ 0
   unfolding testNumber
   admits-test a =
       first-by
-      (passes (table-passed (w .table) (a .table))
-      (passes (values-passed (w .table) (w .present) (a .present))
-      (passes (selection-passed (w .table) (w .selection) (a .selection)) (passes (wanted-passed (w .table) (w .selection) (w .wanted) (a .wanted)) all))))
+      (passes (table-passed (w .room .table) (a .table))
+      (passes (values-passed (w .room) (w .present) (a .present))
+      (passes (selection-passed (w .room .table) (w .selection) (a .selection)) (passes (wanted-passed (w .room) (w .selection) (w .wanted) (a .wanted)) all))))
 
 -- ---- 7 and 8: the list of some changes
 
@@ -113,34 +114,34 @@ module _ (w : Wish) (room : ℕ) where
   pub number-test : (testNumber w ≡ 0 → ⊥) → restoreNumber w room ≡ testNumber w
   unfolding restoreNumber testNumber
   number-test h =
-      first-append (tests w) (listTests (w .table) room (changes w)) ∙ first-stops (testNumber w) (listTests (w .table) room (changes w)) h
+      first-append (tests w) (listTests (w .room .table) room (changes w)) ∙ first-stops (testNumber w) (listTests (w .room .table) room (changes w)) h
 
-  pub number-table : sound (w .table) ≡ false → restoreNumber w room ≡ 1
+  pub number-table : sound (w .room .table) ≡ false → restoreNumber w room ≡ 1
   unfolding restoreNumber
-  number-table a = first-by (stops (table-refused (w .table) a))
+  number-table a = first-by (stops (table-refused (w .room .table) a))
 
-  pub number-present : sound (w .table) ≡ true → valuesSound (w .table) (w .present) ≡ false → restoreNumber w room ≡ 2
+  pub number-present : sound (w .room .table) ≡ true → valuesSound (w .room) (w .present) ≡ false → restoreNumber w room ≡ 2
   unfolding restoreNumber
-  number-present a b = first-by (passes (table-passed (w .table) a) (stops (values-refused (w .table) (w .present) b)))
+  number-present a b = first-by (passes (table-passed (w .room .table) a) (stops (values-refused (w .room) (w .present) b)))
 
-  pub number-selection : sound (w .table) ≡ true → valuesSound (w .table) (w .present) ≡ true → selectionRight (w .table) (w .selection) ≡ false
+  pub number-selection : sound (w .room .table) ≡ true → valuesSound (w .room) (w .present) ≡ true → selectionRight (w .room .table) (w .selection) ≡ false
       → restoreNumber w room ≡ 5
   unfolding restoreNumber
   number-selection a b c =
       first-by
-      (passes (table-passed (w .table) a) (passes (values-passed (w .table) (w .present) b) (stops (selection-refused (w .table) (w .selection) c))))
+      (passes (table-passed (w .room .table) a) (passes (values-passed (w .room) (w .present) b) (stops (selection-refused (w .room .table) (w .selection) c))))
 
-  pub number-wanted : sound (w .table) ≡ true → valuesSound (w .table) (w .present) ≡ true → selectionRight (w .table) (w .selection) ≡ true
-      → wantedRight (w .table) (w .selection) (w .wanted) ≡ false → restoreNumber w room ≡ 6
+  pub number-wanted : sound (w .room .table) ≡ true → valuesSound (w .room) (w .present) ≡ true → selectionRight (w .room .table) (w .selection) ≡ true
+      → wantedRight (w .room) (w .selection) (w .wanted) ≡ false → restoreNumber w room ≡ 6
   unfolding restoreNumber
   number-wanted a b c d =
       first-by
-      (passes (table-passed (w .table) a)
-      (passes (values-passed (w .table) (w .present) b)
-      (passes (selection-passed (w .table) (w .selection) c) (stops (wanted-refused (w .table) (w .selection) (w .wanted) d)))))
+      (passes (table-passed (w .room .table) a)
+      (passes (values-passed (w .room) (w .present) b)
+      (passes (selection-passed (w .room .table) (w .selection) c) (stops (wanted-refused (w .room) (w .selection) (w .wanted) d)))))
 
   -- none of these applies
-  pub number-list : Admitted w → restoreNumber w room ≡ listNumber (w .table) room (changes w)
+  pub number-list : Admitted w → restoreNumber w room ≡ listNumber (w .room .table) room (changes w)
   unfolding restoreNumber testNumber listNumber
   number-list a =
-      first-append (tests w) (listTests (w .table) room (changes w)) ∙ first-passed (testNumber w) (listTests (w .table) room (changes w)) (admits-test w a)
+      first-append (tests w) (listTests (w .room .table) room (changes w)) ∙ first-passed (testNumber w) (listTests (w .room .table) room (changes w)) (admits-test w a)

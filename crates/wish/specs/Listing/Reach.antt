@@ -10,8 +10,10 @@ use Rattle.room.specs.Label.Laws.{bearer-alone}
 use Rattle.room.specs.declared.label.Bearer.{Bearer}
 use Rattle.room.specs.declared.label.Bearer.the-variants.{Only, NotOne}
 use Rattle.room.specs.declared.table.Module.{Module}
-use Rattle.values.specs.Parameters.{parameters, place, parameterAt}
+use Rattle.values.specs.Parameters.{parameters, parameterAt}
 use Rattle.values.specs.Parameters.Places.{at-place}
+use Rattle.values.specs.Room.{Room, rowIn}
+use Rattle.values.specs.Settable.{Puttable, Settable}
 use Rattle.values.specs.Values.Laws.{value-permitted}
 use Rattle.values.specs.declared.parameter.Parameter.{Parameter}
 use Rattle.values.specs.declared.parameter.ParameterFound.the-variants.{At}
@@ -37,18 +39,13 @@ pub reachable-by : (t : List ℕ) (p : Parameter) (m : Module) → p .row .setta
 unfolding reachable
 reachable-by t p m s o = rw (s, bearer-once (bearer t (label t (p .owner))) m o)
 
--- a parameter of the table that is within reach: its row can be set, and its module alone bears its label
-pub record Reached (t : List ℕ) (p : Parameter) : Type 0 where
-  pub listed : parameterAt (parameters t) (place p) ≡ At p
-  pub settable : p .row .settable ≡ true
-  pub only : bearer t (label t (p .owner)) ≡ Only (p .owner)
-
-pub reachable-told : (t : List ℕ) (k : ℕ) (p : Parameter) → parameterAt (parameters t) k ≡ At p → reachable t p ≡ true → Reached t p
+-- a parameter of the table that is within reach is one that a line can set
+pub reachable-told : (t : List ℕ) (k : ℕ) (p : Parameter) → parameterAt (parameters t) k ≡ At p → reachable t p ≡ true → Settable t p
 unfolding reachable
 reachable-told t k p e h =
     go (bearer t (label t (p .owner))) refl (both-right (p .row .settable) (borneOnce (bearer t (label t (p .owner)))) h)
   where
-    go : (b : Bearer) → bearer t (label t (p .owner)) ≡ b → borneOnce (bearer t (label t (p .owner))) ≡ true → Reached t p
+    go : (b : Bearer) → bearer t (label t (p .owner)) ≡ b → borneOnce (bearer t (label t (p .owner))) ≡ true → Settable t p
     go (Only m) b n =
         let o = at-place t k p e in
         record {
@@ -60,27 +57,26 @@ reachable-told t k p e h =
 
 -- ---- the changes of a wish
 
--- a change of a parameter within reach, to a value that its row permits
-pub record Sayable (t : List ℕ) (c : Change) : Type 0 where
-  pub reached : Reached t (c .parameter)
-  pub permits : permitted (c .parameter .row) (c .target) ≡ true
-
--- a change of a parameter of the table, to a value that its row permits
-record Due (t : List ℕ) (c : Change) : Type 0 where
+-- a change of a parameter of the table, to a value that is permitted in the room
+record Due (r : Room) (c : Change) : Type 0 where
   number : ℕ
-  found : parameterAt (parameters t) number ≡ At (c .parameter)
-  permits : permitted (c .parameter .row) (c .target) ≡ true
+  found : parameterAt (parameters (r .table)) number ≡ At (c .parameter)
+  permits : permitted (rowIn r (c .parameter)) (c .target) ≡ true
 
-all-due : (w : Wish) → Admitted w → AllOf (Due (w .table)) (changes w)
+all-due : (w : Wish) → Admitted w → AllOf (Due (w .room)) (changes w)
 all-due w a =
-    differ-each (Due (w .table)) (wish-differ w a)
-    (λ k p e. record { number = k; found = e; permits = value-permitted (w .table) (target w) k p (target-right w (a .present) (a .wanted)) e })
+    differ-each (Due (w .room)) (wish-differ w a)
+    (λ k p e. record { number = k; found = e; permits = value-permitted (w .room) (target w) k p (target-right w (a .present) (a .wanted)) e })
 
-due-sayable : (t : List ℕ) (cs : List Change) → AllOf (Due t) cs → allReachable t cs ≡ true → AllOf (Sayable t) cs
-due-sayable t [] d r = tt
-due-sayable t (c ∷ cs) d r =
-    let h = reachable-both t c cs r in
-    (record { reached = reachable-told t (d .0 .number) (c .parameter) (d .0 .found) (h .0); permits = d .0 .permits }, due-sayable t cs (d .1) (h .1))
+-- a change that one line can make
+abbrev pub Sayable : Room → Change → Type 0
+Sayable r c = Puttable r (c .parameter) (c .target)
 
-pub all-sayable : (w : Wish) → Admitted w → allReachable (w .table) (changes w) ≡ true → AllOf (Sayable (w .table)) (changes w)
-all-sayable w a r = due-sayable (w .table) (changes w) (all-due w a) r
+due-sayable : (r : Room) (cs : List Change) → AllOf (Due r) cs → allReachable (r .table) cs ≡ true → AllOf (Sayable r) cs
+due-sayable r [] d h = tt
+due-sayable r (c ∷ cs) d h =
+    let b = reachable-both (r .table) c cs h in
+    (record { reached = reachable-told (r .table) (d .0 .number) (c .parameter) (d .0 .found) (b .0); permits = d .0 .permits }, due-sayable r cs (d .1) (b .1))
+
+pub all-sayable : (w : Wish) → Admitted w → allReachable (w .room .table) (changes w) ≡ true → AllOf (Sayable (w .room)) (changes w)
+all-sayable w a r = due-sayable (w .room) (changes w) (all-due w a) r

@@ -13,7 +13,7 @@ module _ (w : Wish) (buffer : List ℕ) where
   unfolding restore
   refused-told n e h = rw e (go n h)
     where
-      go : (n : ℕ) → (n ≡ 0 → ⊥) → tell (w .table) n buffer (changes w) ≡ record { number = n; bytes = 0; lines = 0; buffer = buffer }
+      go : (n : ℕ) → (n ≡ 0 → ⊥) → tell (w .room .table) n buffer (changes w) ≡ record { number = n; bytes = 0; lines = 0; buffer = buffer }
       go zero h = absurd (h refl)
       go (suc n) h = unfold tell in refl
 
@@ -21,9 +21,9 @@ module _ (w : Wish) (buffer : List ℕ) where
       → restore w buffer
       ≡ record {
         number = 0;
-        bytes = length (listing (w .table) (changes w));
+        bytes = length (listing (w .room .table) (changes w));
         lines = length (changes w);
-        buffer = sets buffer 0 (listing (w .table) (changes w));
+        buffer = sets buffer 0 (listing (w .room .table) (changes w));
       }
   unfolding restore tell
   listed-told e = rw e refl

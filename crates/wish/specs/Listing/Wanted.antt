@@ -21,7 +21,7 @@ use Rattle.wish.specs.Listing.{Change, changes, changesOf}
 abbrev pub wantedChanges : (selection : List ℕ) → List Parameter → (present wanted : List ℤ) → List Change
 wantedChanges selection ps vs ws = changesOf ps vs (targetOf selection ps vs ws)
 
-pub wanted-all : (w : Wish) → changes w ≡ wantedChanges (w .selection) (parameters (w .table)) (w .present) (w .wanted)
+pub wanted-all : (w : Wish) → changes w ≡ wantedChanges (w .selection) (parameters (w .room .table)) (w .present) (w .wanted)
 unfolding changes target
 wanted-all w = refl
 

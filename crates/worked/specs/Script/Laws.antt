@@ -7,6 +7,7 @@ use native.Mathlib.Omega.{arith}
 use lib.IntN.{ℤ}
 use lib.ListN.{length, drop, length-drop}
 use Rattle.room.specs.Table.{sound}
+use Rattle.values.specs.Room.{Room, roomOf}
 use Rattle.values.specs.Starts.{starts}
 use Rattle.serial_port.specs.Server.{Server, controlSpace}
 use Rattle.serial_port.specs.Call.{step}
@@ -20,11 +21,11 @@ use Rattle.worked.specs.declared.play.Tally.{Tally}
 
 -- ---- the two parts of the promise
 
-module _ {t : List ℕ} {vs : List ℤ} {p : Port} {script : List ℕ} {r : Played} {vs′ : List ℤ} where
-  pub line-by : Plays t vs p script r vs′ → turned r vs′ ≡ turn (controlSpace t) vs (view p) script
+module _ {r : Room} {vs : List ℤ} {p : Port} {script : List ℕ} {g : Played} {vs′ : List ℤ} where
+  pub line-by : Plays r vs p script g vs′ → turned g vs′ ≡ turn (controlSpace r) vs (view p) script
   line-by (plays line few) = line
 
-  pub few-by : Plays t vs p script r vs′ → r .port .len ≤ 64
+  pub few-by : Plays r vs p script g vs′ → g .port .len ≤ 64
   few-by (plays line few) = few
 
 -- ---- one line
@@ -92,8 +93,8 @@ unfolding tally counted outcome
 tally-few t script r e = rw e (go (sound t))
   where
     o : Outcome
-    o = playFrom (length script) (controlSpace t) (starts t) fresh 0 0 script
+    o = playFrom (length script) (controlSpace (roomOf t)) (starts t) fresh 0 0 script
 
     go : (s : Bool) → cond s (counted o) (record { right = 0; at = 0 }) .right ≤ cond s (counted o) (record { right = 0; at = 0 }) .at
-    go true = few-from (length script) (controlSpace t) (starts t) fresh 0 0 script (omega arith)
+    go true = few-from (length script) (controlSpace (roomOf t)) (starts t) fresh 0 0 script (omega arith)
     go false = omega arith

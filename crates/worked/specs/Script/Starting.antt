@@ -9,6 +9,7 @@ use lib.ListN.{take}
 use Rattle.text.specs.Cut.Part.{part-counts}
 use Rattle.text.specs.Every.Laws.{test-held}
 use Rattle.room.specs.Table.{sound}
+use Rattle.values.specs.Room.{roomOf}
 use Rattle.values.specs.Starts.{Started}
 use Rattle.values.specs.Starts.Right.{started, started-first}
 use Rattle.worked.specs.Script.{counted, outcome, tally, told}
@@ -19,7 +20,7 @@ unfolding tally
 unsound-none t script b e n = let s : sound t ≡ false = sym e ∙ not-true b n in rw s refl
 
 pub started-tally : (t : List ℕ) (before : List ℤ) (n : ℕ) (after : List ℤ) → Started t before n after → (script : List ℕ) (r : Tally) (vs : List ℤ)
-    → sound t ≡ true → told r vs ≡ outcome t (take n after) script → r ≡ tally t script
+    → sound t ≡ true → told r vs ≡ outcome (roomOf t) (take n after) script → r ≡ tally t script
 unfolding tally told counted
 started-tally t before n after s script r vs h e = rw h (ap counted (rw (started-first t before n after s) at e))
 

@@ -14,6 +14,7 @@ use mir.Val.{Fits}
 use Rattle.text.specs.Written.Laws.{bytes-by, past-by, wrote-length}
 use Rattle.room.specs.Label.{same}
 use Rattle.room.specs.Table.{sound}
+use Rattle.values.specs.Room.{Room}
 use Rattle.values.specs.Values.{valuesSound}
 use Rattle.serial_port.specs.Server.{controlSpace}
 use Rattle.serial_port.specs.Port.{view}
@@ -27,31 +28,31 @@ use Rattle.serial_port.specs.declared.port.Port.{Port}
 use Rattle.worked.specs.Script.{Plays, plays, through, turn, turned}
 use Rattle.worked.specs.Script.Cutting.{through-most}
 
-module _ (t : List ℕ) (vs : List ℤ) (p : Port) (script : List ℕ) (c : Called) (vs′ : List ℤ) (reply : List ℕ) (s : sound t ≡ true)
-    (r : valuesSound t vs ≡ true) (k : p .len ≤ 64) (a : Answers t vs p script (replicate 64 0) c vs′ reply) where
+module _ (r : Room) (vs : List ℤ) (p : Port) (script : List ℕ) (c : Called) (vs′ : List ℤ) (reply : List ℕ) (s : sound (r .table) ≡ true)
+    (g : valuesSound r vs ≡ true) (k : p .len ≤ 64) (a : Answers r vs p script (replicate 64 0) c vs′ reply) where
   room : length {A = ℕ} (replicate 64 0) ≡ 64
   room = length-replicate {A = ℕ} 64 0
 
-  done : Accepted (controlSpace t) vs p script (replicate 64 0) c vs′ reply
+  done : Accepted (controlSpace r) vs p script (replicate 64 0) c vs′ reply
   unfolding lineLimit replyLimit
-  done = answer-accept t vs p script (replicate 64 0) c vs′ reply s r (omega (arith, room)) k a
+  done = answer-accept r vs p script (replicate 64 0) c vs′ reply s g (omega (arith, room)) k a
 
   pub line-most : c .consumed ≤ length script
-  line-most = rw (done .consumed) (consumed-most (controlSpace t) (view p) vs script)
+  line-most = rw (done .consumed) (consumed-most (controlSpace r) (view p) vs script)
 
-  sent-is : c .sent ≡ length (step (controlSpace t) vs (view p) script .reply)
-  sent-is = past-by (done .reply) ∙ zero-add (length (step (controlSpace t) vs (view p) script .reply))
+  sent-is : c .sent ≡ length (step (controlSpace r) vs (view p) script .reply)
+  sent-is = past-by (done .reply) ∙ zero-add (length (step (controlSpace r) vs (view p) script .reply))
 
   pub sent-most : c .sent ≤ length reply
-  sent-most = omega (arith, room, sent-is, step-fits t vs (view p) script s r, wrote-length (done .reply))
+  sent-most = omega (arith, room, sent-is, step-fits r vs (view p) script s g, wrote-length (done .reply))
 
   pub sent-counts : c .sent ≡ length (take (c .sent) reply)
   sent-counts = sym (length-take-le (c .sent) reply sent-most)
 
-  reply-is : take (c .sent) reply ≡ step (controlSpace t) vs (view p) script .reply
+  reply-is : take (c .sent) reply ≡ step (controlSpace r) vs (view p) script .reply
   reply-is =
-      let l = step (controlSpace t) vs (view p) script .reply in
-      rw (sent-is, bytes-by (done .reply)) (written-first (replicate 64 0) l (omega (arith, room, step-fits t vs (view p) script s r)))
+      let l = step (controlSpace r) vs (view p) script .reply in
+      rw (sent-is, bytes-by (done .reply)) (written-first (replicate 64 0) l (omega (arith, room, step-fits r vs (view p) script s g)))
 
   module _ (must : List ℕ) (e : must ≡ through (take (length script - c .consumed) (drop (c .consumed) script))) where
     must-is : must ≡ through (drop (c .consumed) script)
@@ -64,10 +65,10 @@ module _ (t : List ℕ) (vs : List ℤ) (p : Port) (script : List ℕ) (c : Call
     passed-fits f = record { fits = omega (arith, must-most, line-most) }
 
     pub played : (b : Bool) → b ≡ same (take (c .sent) reply) must
-        → Plays t vs p script (record { port = c .port; passed = c .consumed + length must; right = b }) vs′
+        → Plays r vs p script (record { port = c .port; passed = c .consumed + length must; right = b }) vs′
     unfolding lineLimit turn turned
     played b q =
-        let told : b ≡ same (step (controlSpace t) vs (view p) script .reply) (through (drop (step (controlSpace t) vs (view p) script .consumed) script)) =
+        let told : b ≡ same (step (controlSpace r) vs (view p) script .reply) (through (drop (step (controlSpace r) vs (view p) script .consumed) script)) =
         rw (reply-is, must-is, done .consumed) at q in
         plays (rw (told, done .state, done .seen, must-is, done .consumed) refl) (done .few)
 

@@ -1,11 +1,12 @@
 -- `answer_all`: from read to read, port and values are those of the bytes that came.
 use borrow.Author.Needs.{needs}
+use Rattle.values.specs.Room.{roomOf}
 use Rattle.port.specs.Input.Reads.{Reads, reads}
 use Rattle.port.proofs.input.answer_all.Statement.{statement}
 use Rattle.port.proofs.input.answer_all.Tie as tie
 
 abbrev Inv-loop : tie.InvT-loop
-Inv-loop table rows values₀ input₀ out₀ port₀ turns₀ values input out port turns = Reads table values₀ port₀ input₀ out₀ values input out port turns
+Inv-loop table rows values₀ input₀ out₀ port₀ turns₀ values input out port turns = Reads (roomOf table) values₀ port₀ input₀ out₀ values input out port turns
 
 abbrev μ-loop : tie.MeasureT-loop
 μ-loop table rows values₀ input₀ out₀ port₀ turns₀ values input out port turns = turns

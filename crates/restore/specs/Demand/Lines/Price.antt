@@ -7,6 +7,7 @@ use lib.IntN.{ℤ, pos}
 use lib.ListN.{length, getD, set, length-append}
 use Rattle.values.specs.Parameters.{parameters, place}
 use Rattle.values.specs.Parameters.Elements.{at-element}
+use Rattle.values.specs.Room.{Room}
 use Rattle.values.specs.declared.parameter.Parameter.{Parameter}
 use Rattle.syntax.specs.Shape.{lineLimit}
 use Rattle.line.specs.Answer.{answer}
@@ -77,22 +78,22 @@ abbrev pub potential : (table : List ℕ) → (target : List ℤ) → List ℤ �
 potential t xs vs = total (prices t (parameters t) xs) vs
 
 -- no line of any bytes lowers it by more than its bytes and its 0D
-module _ (t : List ℕ) (lines : Lines t) (xs : List ℤ) where
-  pub lowers : (vs : List ℤ) (l : List ℕ) → length l ≤ lineLimit → Right t vs → potential t xs vs ≤ length l + 1 + potential t xs (answer t vs l .values)
-  lowers vs l n r = go (lines .effect vs l)
+module _ (r : Room) (lines : Lines r) (xs : List ℤ) where
+  pub lowers : (vs : List ℤ) (l : List ℕ) → length l ≤ lineLimit → Right r vs → potential (r .table) xs vs ≤ length l + 1 + potential (r .table) xs (answer r vs l .values)
+  lowers vs l n g = go (lines .effect vs l)
     where
       fs : List (ℤ → ℕ)
-      fs = prices t (parameters t) xs
+      fs = prices (r .table) (parameters (r .table)) xs
 
-      cost : (p : Parameter) (x : ℤ) → ((target : ℤ) → price t p target (getD vs (place p) (pos 0)) ≤ length l + 1 + price t p target x)
-          → Priced t p (getD fs (place p) free) → getD fs (place p) free (getD vs (place p) (pos 0)) ≤ length l + 1 + getD fs (place p) free x
+      cost : (p : Parameter) (x : ℤ) → ((target : ℤ) → price (r .table) p target (getD vs (place p) (pos 0)) ≤ length l + 1 + price (r .table) p target x)
+          → Priced (r .table) p (getD fs (place p) free) → getD fs (place p) free (getD vs (place p) (pos 0)) ≤ length l + 1 + getD fs (place p) free x
       cost p x c (priced y e) = rw e (c y)
       cost p x c (unpriced e) = rw e (unfold free in omega arith)
 
-      go : Effect t vs l → potential t xs vs ≤ length l + 1 + potential t xs (answer t vs l .values)
+      go : Effect r vs l → potential (r .table) xs vs ≤ length l + 1 + potential (r .table) xs (answer r vs l .values)
       go (nothing e) = rw e (omega arith)
       go (puts p x s e c) =
-          let here = at-inside (parameters t) (place p) p (s .listed) in
-          let changes = total-set fs vs (place p) x (omega (arith, values-many t vs r)) in
-          let is = at-element (parameters t) (place p) p p (s .listed) in
-          rw e (omega (arith, changes, cost p x c (rw is at (price-at t (parameters t) xs (place p) p))))
+          let here = at-inside (parameters (r .table)) (place p) p (s .listed) in
+          let changes = total-set fs vs (place p) x (omega (arith, values-many r vs g)) in
+          let is = at-element (parameters (r .table)) (place p) p p (s .listed) in
+          rw e (omega (arith, changes, cost p x c (rw is at (price-at (r .table) (parameters (r .table)) xs (place p) p))))

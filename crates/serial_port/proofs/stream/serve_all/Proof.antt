@@ -2,12 +2,13 @@
 use Prim.Native.Nat.{_-_}
 use borrow.Author.Needs.{needs}
 use lib.ListN.{length}
+use Rattle.values.specs.Room.{roomOf}
 use Rattle.serial_port.specs.Stream.Turns.{Serving, serving, serving-at, serving-end, serving-less, serving-next}
 use Rattle.serial_port.proofs.stream.serve_all.Statement.{statement}
 use Rattle.serial_port.proofs.stream.serve_all.Tie as tie
 
 abbrev Inv-loop : tie.InvT-loop
-Inv-loop table rows values₀ given out₀ port₀ at₀ end₀ values out port at end = Serving table values₀ port₀ given out₀ values port at end out
+Inv-loop table rows values₀ given out₀ port₀ at₀ end₀ values out port at end = Serving (roomOf table) values₀ port₀ given out₀ values port at end out
 
 abbrev μ-loop : tie.MeasureT-loop
 μ-loop table rows values₀ given out₀ port₀ at₀ end₀ values out port at end = length given - at

@@ -2,12 +2,13 @@
 use Prim.Native.Nat.{_-_}
 use borrow.Author.Needs.{needs}
 use lib.ListN.{length}
+use Rattle.values.specs.Room.{roomOf}
 use Rattle.worked.specs.Script.Playing.{Playing, playing}
 use Rattle.worked.proofs.play.play_lines.Statement.{statement}
 use Rattle.worked.proofs.play.play_lines.Tie as tie
 
 abbrev Inv-loop : tie.InvT-loop
-Inv-loop table values₀ script port₀ at₀ right₀ values port at right = Playing table values₀ script values port at right
+Inv-loop table values₀ script port₀ at₀ right₀ values port at right = Playing (roomOf table) values₀ script values port at right
 
 abbrev μ-loop : tie.MeasureT-loop
 μ-loop table values₀ script port₀ at₀ right₀ values port at right = length script - at
