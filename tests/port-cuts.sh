@@ -42,7 +42,7 @@ if [ "$ends" = "$answers" ]; then echo "ok: one reply to each of $ends lines"; e
 
 # a line of 65 bytes gets one 99, and the one after it its own answer
 python3 -c 'import sys; sys.stdout.buffer.write(b"x" * 65 + b"\rGA\"T\">1\r")' >long
-printf '\02599\rGA"T">1=0.0\r' >afresh
+printf '\02599\rGA"T">1=0\r' >afresh
 replies "a line of 65 bytes gets one 99, and the next is read afresh" afresh <long
 
 # the whole input, cut byte by byte and at random
@@ -69,8 +69,8 @@ done
 
 # an input of hundreds of reads, each as long as the buffer: every reply to every read is written
 python3 - <<'P'
-lines = [(b'SA"T">1=-4', b'\x06'), (b'GA"T">1', b'GA"T">1=-4.0'), (b'SA"T">1=99', b'\x1503'), (b'x' * 65, b'\x1599'),
-         (b'SA"T">1=0', b'\x06'), (b'GA"T">1', b'GA"T">1=0.0')]
+lines = [(b'SA"T">1=-4', b'\x06'), (b'GA"T">1', b'GA"T">1=-4'), (b'SA"T">1=99', b'\x1503'), (b'x' * 65, b'\x1599'),
+         (b'SA"T">1=0', b'\x06'), (b'GA"T">1', b'GA"T">1=0')]
 with open("much", "wb") as much, open("wanted", "wb") as wanted:
     for _ in range(3000):
         for line, reply in lines:
@@ -123,7 +123,7 @@ fi
 
 # the longest table, and the empty one
 python3 -c 'import sys; sys.stdout.buffer.write(b"".join(bytes([5]) + b"R%02d" % i + bytes(29) for i in range(64)))' >table
-printf 'GA"R63">2>18=F\rGA"R00">0>8=-6.0\r' >wanted
+printf 'GA"R63">2>18=F\rGA"R00">0>8=-6\r' >wanted
 replies "64 records of 33 rows" wanted < <(printf 'GA"R63">2>18\rGA"R00">0>8\r')
 : >table
 printf '\02501\r\02599\r' >wanted

@@ -89,7 +89,9 @@ void egrivundo_log(const uint8_t *table, size_t table_count,
  *           bytes stores 0 or 1 at [1]; one that is given none, and a
  *           refused one, leave all 66 bytes as they were
  *   given   the bytes that have come
- *   reply   at least 64 bytes; the reply is put at its start, the rest stays
+ *   reply   at least 64 bytes; the reply is put at its start, the rest stays.
+ *           A get line is answered with the line that a restore list has for
+ *           the value, GA for SA: whole decibels have no point
  *   told    [0] bytes consumed, [1] length of the reply (0: none)
  * Answers 0, 1, 2, 3 or 4. */
 uint8_t egrivundo_port(const uint8_t *table, size_t table_count,

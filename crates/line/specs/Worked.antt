@@ -1,4 +1,4 @@
--- The worked lines: one list of cases on the table A, type 1 `T` and type 2 `S`, and one statement over it.
+-- The worked lines: one list of cases, most of them on the table A, type 1 `T` and type 2 `S`, and one statement over it.
 use mathlib.Core.Path.{_≡_, refl}
 use mathlib.Core.Bool.{Bool, true, false, _&&_}
 use mathlib.Core.List.{List, [], _∷_, _++_}
@@ -10,7 +10,7 @@ use lib.IntN.{ℤ, pos, negℤ}
 use lib.ListN.{replicate, set}
 use Rattle.text.specs.Cut.{indexOf, has, before, after, firstFrom, part}
 use Rattle.text.specs.Digits.{isDigit, allDigits, readOn, numberOf, digitsWithin, digits}
-use Rattle.text.specs.Level.{signed, levelTenth, levelPoint, levelMore, levelWhole, readLevel}
+use Rattle.text.specs.Level.{signed, levelTenth, levelPoint, levelMore, levelWhole, readLevel, signText, tenthText, shortTenthText, wholeText, levelText}
 use Rattle.text.specs.Number.{numberForm, readNumber}
 use Rattle.text.specs.Switch.{switchLetter, readSwitch, switchText}
 use Rattle.catalogue.specs.Catalogue.{minus, level, switch, number, catalogue, rowsIn, rowsOf}
@@ -25,8 +25,9 @@ use Rattle.syntax.specs.Shape.{lineLimit, isSet, isGet, opening, closing, equal
 use Rattle.syntax.specs.IndexPart.{oneGroup, twoGroups, groups, readIndices}
 use Rattle.syntax.specs.Value.{ofLevel, ofNumber, ofSwitch, readKind, onlyPermitted, readValue}
 use Rattle.line.specs.Meaning.{indexed, inModule, inRoom, putOf, getOf, setOf, bearerOf, ofShape, meaning}
-use Rattle.spelling.specs.Name.{name}
+use Rattle.spelling.specs.Name.{front, name}
 use Rattle.spelling.specs.IndexText.{indexText}
+use Rattle.spelling.specs.Line.{lineFor}
 use Rattle.spelling.specs.Reply.{getReply}
 use Rattle.spelling.specs.Text.{textOf}
 use Rattle.spelling.specs.Acknowledgement.{ack, nak}
@@ -34,8 +35,10 @@ use Rattle.line.specs.Answer.{Answer, act, answer}
 use Rattle.values.specs.Values.{equal}
 use Rattle.text.specs.Every.{every}
 
--- a line on the values all 0, and what it is answered with
+-- a line in a room, what it is answered with, and the values afterwards
 pub record Case : Type 0 where
+  pub table : List ℕ
+  pub before : List ℤ
   pub line : List ℕ
   pub reply : List ℕ
   pub values : List ℤ
@@ -55,15 +58,20 @@ unfoldable pub bytes : String → List ℕ
 bytes string.[] = []
 bytes (string._∷_ c s) = code c ∷ bytes s
 
--- a set line that is acknowledged and puts x into the value k; a get line; a line that is refused with a code
+-- on the table A with the values all 0: a set line that is acknowledged and puts x into the value k, and a line that is refused with a code
 unfoldable pub puts : String → ℕ → ℤ → Case
-puts line k x = record { line = bytes line; reply = 0x06 ∷ 0x0D ∷ []; values = set zeros k x }
-
-unfoldable pub told : String → String → Case
-told line reply = record { line = bytes line; reply = bytes reply ++ (0x0D ∷ []); values = zeros }
+puts line k x = record { table = tableA; before = zeros; line = bytes line; reply = 0x06 ∷ 0x0D ∷ []; values = set zeros k x }
 
 unfoldable pub refused : String → String → Case
-refused line code = record { line = bytes line; reply = 0x15 ∷ (bytes code ++ (0x0D ∷ [])); values = zeros }
+refused line code = record { table = tableA; before = zeros; line = bytes line; reply = 0x15 ∷ (bytes code ++ (0x0D ∷ [])); values = zeros }
+
+-- a get line, in a room of its own
+unfoldable pub told : List ℕ → List ℤ → String → String → Case
+told t vs line reply = record { table = t; before = vs; line = bytes line; reply = bytes reply ++ (0x0D ∷ []); values = vs }
+
+-- the source's own get reply, which panels match: the first fader of a room combiner at -3 dB
+unfoldable pub sourceReply : Case
+sourceReply = told (4 ∷ (bytes "StRC 1" ++ replicate 26 0)) (set zeros 1 (negℤ (pos 30))) "GA\"StRC 1\">1>2" "GA\"StRC 1\">1>2=-3"
 
 unfoldable pub cases : List Case
 cases =
@@ -73,7 +81,13 @@ cases =
     puts "SA\"T\">1=-0" 0 (pos 0) ∷
     refused "SA\"T\">1=.5" "03" ∷
     puts "SA\"T\">2=T" 1 (pos 1) ∷
-    told "GA\"S\">1" "GA\"S\">1=F" ∷
+    told tableA zeros "GA\"S\">1" "GA\"S\">1=F" ∷
+    told tableA zeros "GA\"T\">1" "GA\"T\">1=0" ∷
+    told tableA (set zeros 0 (negℤ (pos 40))) "GA\"T\">1" "GA\"T\">1=-4" ∷
+    told tableA (set zeros 0 (negℤ (pos 5))) "GA\"T\">1" "GA\"T\">1=-0.5" ∷
+    told tableA (set zeros 0 (pos 120)) "GA\"T\">1" "GA\"T\">1=12" ∷
+    sourceReply ∷
+    told (oneByteRecord 5 0x52) (set (replicate 33 (pos 0)) 5 (negℤ (pos 60))) "GA\"R\">0>8" "GA\"R\">0>8=-6" ∷
     refused "SA\"Q\">9=x" "01" ∷
     refused "SA\"T\">9=x" "02" ∷
     refused "SA\"T\">1>0=1" "02" ∷
@@ -92,15 +106,15 @@ sameAnswer a c = same (a .reply) (c .reply) && sameValues (a .values) (c .values
 
 -- a line is answered as its case says
 unfoldable pub answered : Case → Bool
-answered c = sameAnswer (answer (roomOf tableA) zeros (c .line)) c
+answered c = sameAnswer (answer (roomOf (c .table)) (c .before) (c .line)) c
 
 pub worked : every answered cases ≡ true
-unfolding answered cases bytes puts told refused tableA oneByteRecord zeros sameAnswer sameValues equal
+unfolding answered cases bytes puts told refused tableA sourceReply oneByteRecord zeros sameAnswer sameValues equal
     indexOf has before after isDigit allDigits every readOn numberOf digitsWithin digits
-    signed levelTenth levelPoint levelMore levelWhole readLevel numberForm readNumber switchLetter readSwitch switchText
+    signed levelTenth levelPoint levelMore levelWhole readLevel signText tenthText shortTenthText wholeText levelText numberForm readNumber switchLetter readSwitch switchText
     minus level switch number catalogue rowsIn rowsOf permitted bodyLength layoutOf recordLimit modulesFrom modules
     label same bearersIn exactlyOne bearer numbered parametersOf place rowIn sameIndices withIndices named
     lineLimit isSet isGet opening firstFrom closing equals getShape setShape quoted shape part
     oneGroup twoGroups groups readIndices ofLevel ofNumber ofSwitch readKind onlyPermitted readValue
-    indexed inModule inRoom putOf getOf setOf bearerOf ofShape meaning ack nak indexText textOf name getReply act answer
+    indexed inModule inRoom putOf getOf setOf bearerOf ofShape meaning ack nak indexText textOf name front lineFor getReply act answer
 worked = refl

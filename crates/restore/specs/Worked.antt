@@ -1,4 +1,4 @@
--- The worked lines that are proved: the lines and the restore lists on the table A, all values 0, as one list of cases and one statement over it.
+-- The worked lines that are proved: the lines, and the restore lists on the table A, all values 0, as one list of cases and one statement over it.
 use mathlib.Core.Path.{_≡_, refl}
 use mathlib.Core.Bool.{Bool, true, _&&_}
 use mathlib.Core.List.{List, [], _∷_, _++_, map}
@@ -24,7 +24,8 @@ use Rattle.room.specs.Label.{label, same, bearersIn, exactlyOne, bearer}
 use Rattle.values.specs.Parameters.{numbered, parametersOf, parametersIn, parameters}
 use Rattle.values.specs.Room.{rowIn}
 use Rattle.values.specs.Values.{eachPermitted, valuesSound, valuesNumber, equal}
-use Rattle.spelling.specs.Name.{name}
+use Rattle.spelling.specs.Line.{lineFor}
+use Rattle.spelling.specs.Name.{front, name}
 use Rattle.spelling.specs.IndexText.{indexText}
 use Rattle.spelling.specs.Say.{say}
 use Rattle.spelling.specs.Text.{textOf}
@@ -92,7 +93,7 @@ unfolding shown agrees called lists four wishes ended bytes tableA oneByteRecord
     minus level switch number catalogue known rowsIn rowsOf permitted
     labelByte labelRight isZero fieldSound bodyLength bodySound layoutOf recordsSound recordLimit sound modulesFrom modules
     label same bearersIn exactlyOne bearer numbered parametersOf parametersIn parameters rowIn eachPermitted valuesSound
-    indexText name textOf say atMostOne selectionRight chosen chosenPermitted wantedRight targetOf target equal
+    indexText name front lineFor textOf say atMostOne selectionRight chosen chosenPermitted wantedRight targetOf target equal
     changesOf changes lineOf listing borneOnce reachable allReachable
     firstRefusal tableNumber valuesNumber selectionNumber wantedNumber reachNumber spaceNumber restoreNumber tell restore
 lists-shown = refl

@@ -1,5 +1,4 @@
 -- How a line names a parameter.
-pub mod Line
 pub mod Measuring
 pub mod Writing
 use mathlib.Core.List.{List, [], _∷_, _++_}

@@ -1,13 +1,17 @@
--- The answer to a get line.
+-- The answer to a get line, and how it is read as a set line.
 pub mod Laws
 pub mod Writing
 use mathlib.Core.List.{List, [], _∷_, _++_}
-use Prim.Native.Nat.{ℕ}
+use Prim.Native.Nat.{ℕ, _-_}
 use lib.IntN.{ℤ}
+use lib.ListN.{length, take, drop}
 use Rattle.values.specs.declared.parameter.Parameter.{Parameter}
-use Rattle.spelling.specs.Name.{name}
-use Rattle.spelling.specs.Text.{replyText}
+use Rattle.spelling.specs.Line.{lineFor}
 
 -- the answer to GA
 unfoldable pub getReply : List ℕ → Parameter → ℤ → List ℕ
-getReply t p v = 0x47 ∷ 0x41 ∷ (name t p ++ (0x3D ∷ (replyText (p .row .kind) v ++ (0x0D ∷ []))))
+getReply t p v = lineFor 0x47 t p v ++ (0x0D ∷ [])
+
+-- a reply as a set line: `SA` for its first two bytes, and without its last one
+unfoldable pub asSetLine : List ℕ → List ℕ
+asSetLine reply = 0x53 ∷ 0x41 ∷ take (length reply - 3) (drop 2 reply)

@@ -2,13 +2,12 @@
 pub mod Laws
 pub mod Length
 pub mod Writing
-use mathlib.Core.List.{List, _∷_, _++_}
+use mathlib.Core.List.{List}
 use Prim.Native.Nat.{ℕ}
 use lib.IntN.{ℤ}
 use Rattle.values.specs.declared.parameter.Parameter.{Parameter}
-use Rattle.spelling.specs.Name.{name}
-use Rattle.spelling.specs.Text.{setText}
+use Rattle.spelling.specs.Line.{lineFor}
 
 -- the line, without its 0D, that takes the parameter p from the present to the wanted value
 unfoldable pub say : List ℕ → Parameter → (present wanted : ℤ) → List ℕ
-say t p present wanted = 0x53 ∷ 0x41 ∷ (name t p ++ (0x3D ∷ setText (p .row .kind) wanted))
+say t p present wanted = lineFor 0x53 t p wanted

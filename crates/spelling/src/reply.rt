@@ -1,8 +1,6 @@
 // The answer to a get line, written at the start of the reply buffer.
-use crate::name::put_front;
-use crate::value::put_told;
+use crate::line::put_line;
 use room::label::label_length;
-use text::written::put_byte;
 use values::parameter::Parameter;
 ghost use Prim.Native.Nat.{_+_, _≤_};
 ghost use lib.ListN.{length};
@@ -15,11 +13,7 @@ pub fn put_get(table: &[u8], p: Parameter, v: i64, reply: &mut [u8]) -> usize
     requires { ⌜ length (getReply (now table) p v) ≤ length (now reply) ⌝ }
     ensures { λ r. ⌜ Wrote (now (reply .entry)) 0 (getReply (now (table .entry)) p v) r (now (reply .exit)) ⌝ }
 {
-    let row = p.row;
-    let kind = row.kind;
     let owner = p.owner;
     let size = label_length(table, owner.place);
-    let next = put_front(table, p, size, b'G', reply);
-    let end = put_told(reply, next, kind, v);
-    put_byte(reply, end, 0x0D)
+    put_line(table, p, size, b'G', v, reply)
 }

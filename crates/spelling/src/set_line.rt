@@ -1,9 +1,7 @@
 // The set line that takes a parameter from its present to its wanted value: its length, and writing it at the start of a buffer.
+use crate::line::put_line;
 use crate::name::name_length;
-use crate::name::put_front;
-use crate::value::put_text;
 use crate::value::text_length;
-use text::written::put_byte;
 use values::parameter::Parameter;
 ghost use mathlib.Core.List.{[], _∷_, _++_};
 ghost use mathlib.Core.Path.{_≡_};
@@ -36,9 +34,5 @@ pub fn put_say_line(
     requires { ⌜ length (say (now table) p present wanted ++ (0x0D ∷ [])) ≤ length (now buffer) ⌝ }
     ensures { λ r. ⌜ Wrote (now (buffer .entry)) 0 (say (now (table .entry)) p present wanted ++ (0x0D ∷ [])) r (now (buffer .exit)) ⌝ }
 {
-    let row = p.row;
-    let kind = row.kind;
-    let next = put_front(table, p, size, b'S', buffer);
-    let end = put_text(buffer, next, kind, wanted);
-    put_byte(buffer, end, 0x0D)
+    put_line(table, p, size, b'S', wanted, buffer)
 }

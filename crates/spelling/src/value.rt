@@ -1,8 +1,7 @@
-// A value's text, in a set line and in a reply: how long it is, and writing it.
+// A value's text: how long it is, and writing it.
 use catalogue::row::Kind;
 use text::level::level_length;
 use text::level::put_level;
-use text::level::put_level_one_decimal;
 use text::number::number_length;
 use text::number::put_number;
 use text::sign::magnitude;
@@ -11,11 +10,11 @@ ghost use mathlib.Core.Path.{_≡_};
 ghost use Prim.Native.Nat.{_+_, _≤_};
 ghost use lib.ListN.{length};
 ghost use Rattle.text.specs.Written.{Wrote};
-ghost use Rattle.spelling.specs.Text.{replyText, setText};
+ghost use Rattle.spelling.specs.Text.{textOf};
 
 // How long a value's text is.
 pub(crate) fn text_length(kind: Kind, v: i64) -> usize
-    ensures { λ r. ⌜ (r ≡ length (setText kind v)) × (r ≤ 23) ⌝ }
+    ensures { λ r. ⌜ (r ≡ length (textOf kind v)) × (r ≤ 23) ⌝ }
 {
     match kind {
         Kind::Level => level_length(v),
@@ -24,26 +23,14 @@ pub(crate) fn text_length(kind: Kind, v: i64) -> usize
     }
 }
 
-// A value in its shortest text.
+// A value's text.
 pub(crate) fn put_text(buffer: &mut [u8], at: usize, kind: Kind, v: i64) -> usize
-    requires { ⌜ at + length (setText kind v) ≤ length (now buffer) ⌝ }
-    ensures { λ r. ⌜ Wrote (now (buffer .entry)) at (setText kind v) r (now (buffer .exit)) ⌝ }
+    requires { ⌜ at + length (textOf kind v) ≤ length (now buffer) ⌝ }
+    ensures { λ r. ⌜ Wrote (now (buffer .entry)) at (textOf kind v) r (now (buffer .exit)) ⌝ }
 {
     match kind {
         Kind::Level => put_level(buffer, at, v),
         Kind::Switch => put_switch(buffer, at, magnitude(v)),
         Kind::Number => put_number(buffer, at, magnitude(v)),
-    }
-}
-
-// A value as a reply tells it.
-pub(crate) fn put_told(buffer: &mut [u8], at: usize, kind: Kind, told: i64) -> usize
-    requires { ⌜ at + length (replyText kind told) ≤ length (now buffer) ⌝ }
-    ensures { λ r. ⌜ Wrote (now (buffer .entry)) at (replyText kind told) r (now (buffer .exit)) ⌝ }
-{
-    match kind {
-        Kind::Level => put_level_one_decimal(buffer, at, told),
-        Kind::Switch => put_switch(buffer, at, magnitude(told)),
-        Kind::Number => put_number(buffer, at, magnitude(told)),
     }
 }

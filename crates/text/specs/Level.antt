@@ -65,10 +65,6 @@ shortTenthText (suc d) = tenthText (suc d)
 unfoldable pub wholeText : ℤ → List ℕ
 wholeText v = signText v ++ digits (natAbs v / 10)
 
--- the shortest text of v tenths, as the restore list writes it: `-4`, `0.5`, `-0.5`, `0`
+-- the shortest text of v tenths, as replies and set lines have it: `-4`, `0.5`, `-0.5`, `0`
 unfoldable pub levelText : ℤ → List ℕ
 levelText v = wholeText v ++ shortTenthText (natAbs v % 10)
-
--- the text of v tenths with exactly one decimal, as a GA reply has it: `-4.0`, `0.0`, `-0.5`
-unfoldable pub oneDecimalText : ℤ → List ℕ
-oneDecimalText v = wholeText v ++ tenthText (natAbs v % 10)

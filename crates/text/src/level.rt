@@ -10,7 +10,7 @@ ghost use mathlib.Core.Path.{_≡_};
 ghost use Prim.Native.Nat.{_+_, _<_, _≤_};
 ghost use lib.ListN.{length};
 ghost use Rattle.text.specs.Written.{Wrote};
-ghost use Rattle.text.specs.Level.{levelMore, levelPoint, levelTenth, levelText, levelWhole, oneDecimalText, readLevel, shortTenthText, signText, tenthText, wholeText};
+ghost use Rattle.text.specs.Level.{levelMore, levelPoint, levelTenth, levelText, levelWhole, readLevel, shortTenthText, signText, tenthText, wholeText};
 
 // What a level text says, in tenths of a dB, or that it is none.
 pub enum Level {
@@ -122,10 +122,10 @@ fn put_sign(buffer: &mut [u8], at: usize, v: i64) -> usize
     requires { ⌜ at + length (signText v) ≤ length (now buffer) ⌝ }
     ensures { λ r. ⌜ Wrote (now (buffer .entry)) at (signText v) r (now (buffer .exit)) ⌝ }
 {
-    if v < 0 {
-        return put_byte(buffer, at, b'-');
+    if 0 <= v {
+        return at;
     }
-    at
+    put_byte(buffer, at, b'-')
 }
 
 // The sign and the whole part of `v` tenths.
@@ -158,13 +158,4 @@ pub fn put_level(buffer: &mut [u8], at: usize, v: i64) -> usize
         return next;
     }
     put_tenth(buffer, next, tenth)
-}
-
-// The text of `v` tenths with exactly one decimal.
-pub fn put_level_one_decimal(buffer: &mut [u8], at: usize, v: i64) -> usize
-    requires { ⌜ at + length (oneDecimalText v) ≤ length (now buffer) ⌝ }
-    ensures { λ r. ⌜ Wrote (now (buffer .entry)) at (oneDecimalText v) r (now (buffer .exit)) ⌝ }
-{
-    let next = put_whole(buffer, at, v);
-    put_tenth(buffer, next, magnitude(v) % 10)
 }

@@ -103,10 +103,10 @@ pub const MISTAKES: &[Mistake] = &[
     ),
     (
         "reply_text",
-        "a reply has the shortest level",
-        "line.rs",
-        "Tenths::Always",
-        "Tenths::Shortest",
+        "a reply has levels with .0",
+        "text.rs",
+        "    write_value(sink, row.kind, value);",
+        "    write_value(sink, row.kind, value);\n    if verb == b\"GA\" && row.kind == Kind::Level && value % 10 == 0 {\n        sink.put(b\".0\");\n    }",
     ),
     (
         "written_sign",

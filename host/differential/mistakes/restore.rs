@@ -48,9 +48,9 @@ pub const MISTAKES: &[Mistake] = &[
     (
         "long_level",
         "a list has levels with .0",
-        "restore.rs",
-        "wanted, Tenths::Shortest",
-        "wanted, Tenths::Always",
+        "text.rs",
+        "    write_value(sink, row.kind, value);",
+        "    write_value(sink, row.kind, value);\n    if verb == b\"SA\" && row.kind == Kind::Level && value % 10 == 0 {\n        sink.put(b\".0\");\n    }",
     ),
     (
         "count_lines",
@@ -63,8 +63,8 @@ pub const MISTAKES: &[Mistake] = &[
         "list_toggle",
         "a list turns switches over with T",
         "text.rs",
-        "sink.put(if value == 1 { b\"O\" } else { b\"F\" })",
-        "sink.put(if tenths == Tenths::Shortest { b\"T\" } else if value == 1 { b\"O\" } else { b\"F\" })",
+        "    write_value(sink, row.kind, value);",
+        "    if verb == b\"SA\" && row.kind == Kind::Switch {\n        sink.put(b\"T\");\n    } else {\n        write_value(sink, row.kind, value);\n    }",
     ),
     (
         "part_written",

@@ -23,7 +23,7 @@
 //! assert_eq!(port.held(), b"GA\"T");
 //!
 //! let fed = room.feed(&mut port, b"\">1\r")?;
-//! assert_eq!(fed.reply.bytes(), b"GA\"T\">1=-4.0\r");
+//! assert_eq!(fed.reply.bytes(), b"GA\"T\">1=-4\r");
 //! assert_eq!(room.values(), [-40, 0, 0, 0, 0, 0, 0]);
 //! # Ok::<(), egrivundo::Refusal>(())
 //! ```

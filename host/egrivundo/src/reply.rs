@@ -10,7 +10,8 @@ pub struct Reply {
 }
 
 impl Reply {
-    /// The bytes to send.
+    /// The bytes to send. A get line is answered with the line that a restore
+    /// list has for the value, `GA` for its `SA`: whole decibels have no point.
     pub fn bytes(&self) -> &[u8] {
         &self.buffer[..self.length]
     }

@@ -1,7 +1,7 @@
 //! One finished line: its parts, its reply, and what it sets.
 
 use super::table::Table;
-use super::text::{read_index, read_value, write_line, Sink, Tenths, Writer};
+use super::text::{read_index, read_value, write_line, Sink, Writer};
 
 /// The two digits of a NAK.
 type Code = [u8; 2];
@@ -50,14 +50,7 @@ fn serve(table: Table, values: &mut [i64], line: &[u8], reply: &mut [u8]) -> Res
             *value = read_value(row, text, *value).ok_or(VALUE)?;
             writer.put(b"\x06\r");
         }
-        None => write_line(
-            &mut writer,
-            b"GA",
-            module.label,
-            row,
-            *value,
-            Tenths::Always,
-        ),
+        None => write_line(&mut writer, b"GA", module.label, row, *value),
     }
     Ok(writer.length)
 }

@@ -2,7 +2,7 @@
 
 use super::catalogue::Row;
 use super::table::{permitted, Module, Table};
-use super::text::{write_line, Count, Sink, Tenths, Writer};
+use super::text::{write_line, Count, Sink, Writer};
 use super::Refusal;
 
 /// Writes the shortest list and tells its bytes and lines.
@@ -95,7 +95,7 @@ impl<'a> Wish<'a> {
         let mut lines = 0;
         for module in self.chosen() {
             for (row, wanted) in self.changes(module) {
-                write_line(sink, b"SA", module.label, row, wanted, Tenths::Shortest);
+                write_line(sink, b"SA", module.label, row, wanted);
                 lines += 1;
             }
         }

@@ -108,17 +108,8 @@ fn write_number(sink: &mut impl Sink, number: u32) {
     sink.put(&digits[first..]);
 }
 
-/// Whether a level without tenths is written with its `.0`.
-#[derive(Clone, Copy, PartialEq, Eq)]
-pub enum Tenths {
-    /// As a reply has it.
-    Always,
-    /// As the restore list has it.
-    Shortest,
-}
-
-/// The text of a permitted value.
-pub fn write_value(sink: &mut impl Sink, kind: Kind, value: i64, tenths: Tenths) {
+/// The shortest text of a permitted value.
+pub fn write_value(sink: &mut impl Sink, kind: Kind, value: i64) {
     match kind {
         Kind::Switch => sink.put(if value == 1 { b"O" } else { b"F" }),
         Kind::Number => write_number(sink, value as u32),
@@ -128,22 +119,15 @@ pub fn write_value(sink: &mut impl Sink, kind: Kind, value: i64, tenths: Tenths)
             }
             let size = value.unsigned_abs() as u32;
             write_number(sink, size / 10);
-            if tenths == Tenths::Always || !size.is_multiple_of(10) {
+            if !size.is_multiple_of(10) {
                 sink.put(&[b'.', b'0' + (size % 10) as u8]);
             }
         }
     }
 }
 
-/// A line: verb, label, indices, `=`, value, end.
-pub fn write_line(
-    sink: &mut impl Sink,
-    verb: &[u8; 2],
-    label: &[u8],
-    row: &Row,
-    value: i64,
-    tenths: Tenths,
-) {
+/// A reply or a set line: verb, label, indices, `=`, value, end.
+pub fn write_line(sink: &mut impl Sink, verb: &[u8; 2], label: &[u8], row: &Row, value: i64) {
     sink.put(verb);
     sink.put(b"\"");
     sink.put(label);
@@ -154,6 +138,6 @@ pub fn write_line(
         write_number(sink, u32::from(index2));
     }
     sink.put(b"=");
-    write_value(sink, row.kind, value, tenths);
+    write_value(sink, row.kind, value);
     sink.put(b"\r");
 }

@@ -103,7 +103,7 @@ fn port_lines() {
     assert_eq!(room.feed(b""), Ok((0, vec![])));
     assert_eq!(room.feed(b"\">1"), Ok((3, vec![])));
     assert_eq!(room.port[..9], *b"\x07\0GA\"T\">1");
-    assert_eq!(room.feed(b"\r\r"), Ok((1, b"GA\"T\">1=1.0\r".to_vec())));
+    assert_eq!(room.feed(b"\r\r"), Ok((1, b"GA\"T\">1=1\r".to_vec())));
     assert_eq!(room.feed(b"\r"), Ok((1, nak("99"))));
     // 64 bytes are a line, 65 are not; both are answered once.
     let line = [b"GA\"Q\"".to_vec(), vec![b'x'; 59]].concat();

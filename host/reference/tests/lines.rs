@@ -115,7 +115,7 @@ fn indices() {
             b"SA\"R\">2>018=O",
         ],
     );
-    assert_eq!(room.line(b"GA \"C\">01>002"), b"GA\"C\">1>2=1.0\r");
+    assert_eq!(room.line(b"GA \"C\">01>002"), b"GA\"C\">1>2=1\r");
 }
 
 #[test]
@@ -170,8 +170,8 @@ fn texts() {
             b"SA\"R\">1>9=06",
         ],
     );
-    assert_eq!(room.line(b"GA\"T\">3"), b"GA\"T\">3=0.0\r");
-    assert_eq!(room.line(b"GA\"T\">1"), b"GA\"T\">1=-15.0\r");
+    assert_eq!(room.line(b"GA\"T\">3"), b"GA\"T\">3=0\r");
+    assert_eq!(room.line(b"GA\"T\">1"), b"GA\"T\">1=-15\r");
     assert_eq!(room.line(b"GA\"C\">1>1"), b"GA\"C\">1>1=3\r");
     assert_eq!(room.line(b"GA\"C\">1>2"), b"GA\"C\">1>2=-0.5\r");
     assert_eq!(room.line(b"GA\"R\">0>4"), b"GA\"R\">0>4=F\r");

@@ -58,6 +58,23 @@ fn combiner() {
 }
 
 #[test]
+fn whole_decibels_have_no_point() {
+    let mut room = Room::new(&[(4, b"StRC 1")]);
+    for (value, text) in [
+        (-30, "-3"),
+        (-40, "-4"),
+        (0, "0"),
+        (-5, "-0.5"),
+        (120, "12"),
+        (-605, "-60.5"),
+    ] {
+        room.values[1] = value;
+        let reply = format!("GA\"StRC 1\">1>2={text}\r");
+        assert_eq!(room.line(br#"GA"StRC 1">1>2"#), reply.as_bytes());
+    }
+}
+
+#[test]
 fn suppressor() {
     let mut room = Room::new(&[(6, b"P")]);
     assert_eq!(room.values, [0, 1]);
@@ -85,7 +102,7 @@ fn router() {
         );
     }
     assert_eq!(room.values[0], 8);
-    assert_eq!(room.line(br#"GA"R">0>8"#), b"GA\"R\">0>8=-6.0\r");
+    assert_eq!(room.line(br#"GA"R">0>8"#), b"GA\"R\">0>8=-6\r");
 }
 
 #[test]
@@ -114,6 +131,6 @@ fn restore() {
 fn the_program() {
     let mut room = Room::a();
     assert_eq!(room.line(br#"SA"T">1=-4"#), ACK);
-    assert_eq!(room.line(br#"GA"T">1"#), b"GA\"T\">1=-4.0\r");
+    assert_eq!(room.line(br#"GA"T">1"#), b"GA\"T\">1=-4\r");
     assert_eq!(room.line(br#"SA"T">1=99"#), nak("03"));
 }

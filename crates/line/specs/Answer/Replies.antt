@@ -18,7 +18,9 @@ use Rattle.values.specs.declared.parameter.Parameter.{Parameter}
 use Rattle.text.specs.Cut.{part}
 use Rattle.line.specs.Meaning.{meaning}
 use Rattle.line.specs.Meaning.Laws.{Gets, names-label, get-told}
-use Rattle.spelling.specs.Reply.{getReply}
+use Rattle.spelling.specs.Reply.{asSetLine, getReply}
+use Rattle.spelling.specs.Reply.Laws.{reply-as-said}
+use Rattle.spelling.specs.Say.{say}
 use Rattle.spelling.specs.Acknowledgement.Laws.{ack-length, nak-length}
 use Rattle.line.specs.Told.{Told}
 use Rattle.line.specs.Told.Laws.{reply-told}
@@ -28,6 +30,12 @@ use Rattle.line.specs.declared.meaning.Meaning.the-variants.{Get}
 
 pub gets-label : (t line : List ℕ) (p : Parameter) → sound t ≡ true → Gets t line p → bearer t (label t (p .owner)) ≡ Only (p .owner)
 gets-label t line p s h = names-label t (part line (h .quote + 1) (h .close)) (part line (h .close + 1) (length line)) p s (h .names)
+
+-- read as a set line, the answer to a get line is the set line that is written for the present value
+pub get-as-said : (r : Room) (vs : List ℤ) (line : List ℕ) (p : Parameter) (u : ℤ) → meaning r vs line ≡ Get p
+    → asSetLine (answer r vs line .reply) ≡ say (r .table) p u (getD vs (place p) (pos 0))
+unfolding act
+get-as-said r vs line p u e = rw (answered r vs line (Get p) e) (reply-as-said (r .table) p u (getD vs (place p) (pos 0)))
 
 module _ (r : Room) (vs : List ℤ) (line : List ℕ) (s : sound (r .table) ≡ true) (v : valuesSound r vs ≡ true) where
   gets-told : (p : Parameter) → Gets (r .table) line p → Told (r .table) p (getD vs (place p) (pos 0)) (getReply (r .table) p (getD vs (place p) (pos 0)))

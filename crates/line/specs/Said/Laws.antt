@@ -30,16 +30,16 @@ use Rattle.values.specs.Settable.{Puttable}
 use Rattle.line.specs.Answer.Laws.{answered}
 use Rattle.spelling.specs.Say.{say}
 use Rattle.spelling.specs.Say.Laws.{say-bytes, say-spelled}
-use Rattle.spelling.specs.Text.{setText}
+use Rattle.spelling.specs.Text.{textOf}
 use Rattle.spelling.specs.Text.Laws.{text-lacks, text-short}
 use Rattle.line.specs.Said.Naming.{Reached, reached, naming, parts-put, reached-sized, naming-short, naming-parts, rest, naming-rest, rest-no-return, verb-no-return}
 use Rattle.line.specs.declared.meaning.Meaning.the-variants.{Put}
 
-pub say-naming : (t : List ℕ) (p : Parameter) (v x : ℤ) → say t p v x ≡ naming t p (setText (p .row .kind) x)
+pub say-naming : (t : List ℕ) (p : Parameter) (v x : ℤ) → say t p v x ≡ naming t p (textOf (p .row .kind) x)
 unfolding naming rest
 say-naming t p v x = say-spelled t p v x
 
-no-return : (k : Kind) (x : ℤ) → indexOf 0x0D (setText k x) ≡ length (setText k x)
+no-return : (k : Kind) (x : ℤ) → indexOf 0x0D (textOf k x) ≡ length (textOf k x)
 no-return k x = text-lacks 0x0D k x return-other
 
 naming-whole : (t : List ℕ) (p : Parameter) → Reached t p → (w : List ℕ) → indexOf 0x0D w ≡ length w → indexOf 0x0D (naming t p w) ≡ length (naming t p w)
@@ -54,11 +54,11 @@ pub record Said (r : Room) (p : Parameter) (x : ℤ) (line : List ℕ) : Type 0 
   pub means : (vs : List ℤ) → meaning r vs line ≡ Put p x
 
 naming-said : (r : Room) (p : Parameter) (v x : ℤ) → Reached (r .table) p → p .row .settable ≡ true → permitted (rowIn r p) x ≡ true
-    → Said r p x (naming (r .table) p (setText (p .row .kind) x))
+    → Said r p x (naming (r .table) p (textOf (p .row .kind) x))
 naming-said r p v x n s h =
     let t = r .table in
     let z = reached-sized t p n x (row-in-permits r p x h) in
-    let w = setText (p .row .kind) x in
+    let w = textOf (p .row .kind) x in
     let short = text-short (p .row .kind) x z in
     record {
       bytes = rw (say-naming t p v x) at (say-bytes t p v x (label-bytes (label t (p .owner)) (n .right)));

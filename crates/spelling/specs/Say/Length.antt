@@ -19,10 +19,10 @@ use Rattle.spelling.specs.IndexText.Length.{indices-short}
 use Rattle.spelling.specs.Name.Measuring.{name-length-is}
 use Rattle.spelling.specs.Say.{say}
 use Rattle.spelling.specs.Say.Writing.{line-length-is}
-use Rattle.spelling.specs.Text.{setText, textOf}
+use Rattle.spelling.specs.Text.{textOf}
 use Rattle.spelling.specs.Text.Length.{level-text-short, number-text-short, switch-text-is}
 
-value-short : (k : Kind) (x : ℤ) → SFits w64 x → length (setText k x) ≤ 23
+value-short : (k : Kind) (x : ℤ) → SFits w64 x → length (textOf k x) ≤ 23
 unfolding textOf
 value-short kind.Level x f = level-text-short kind.Level x _ f (rw (toZ-ofZ f) refl)
 value-short kind.Switch x f = omega (arith, switch-text-is kind.Switch x refl)
@@ -35,5 +35,5 @@ say-short t p v x h f =
     let l = label-short t (p .owner) _ refl in
     let n = name-length-is t p _ refl _ refl in
     let k = value-short (p .row .kind) x f in
-    let s = line-length-is t p v x _ (length (setText (p .row .kind) x)) f refl (rw (toZ-ofZ f) refl) in
+    let s = line-length-is t p v x _ (length (textOf (p .row .kind) x)) f refl (rw (toZ-ofZ f) refl) in
     omega arith

@@ -10,64 +10,45 @@ use mir.Val.{SFits}
 use mir.Facts.{toZ-ofZ}
 use Rattle.text.specs.Digits.{digits}
 use Rattle.text.specs.Digits.Laws.{some-digits}
-use Rattle.text.specs.Level.{levelText, oneDecimalText}
-use Rattle.text.specs.Level.Length.{decimal-longer}
+use Rattle.text.specs.Level.{levelText}
 use Rattle.text.specs.Level.Sign.{kept}
 use Rattle.text.specs.Switch.{switchText}
 use Rattle.text.specs.Switch.Laws.{switch-length}
 use Rattle.text.specs.Written.{Wrote}
 use Rattle.catalogue.specs.declared.row.Kind.{Kind}
 use Rattle.catalogue.specs.declared.row.Kind.the-variants as kind
-use Rattle.spelling.specs.Text.{textOf, setText, replyText}
+use Rattle.spelling.specs.Text.{textOf}
 
--- ---- room for a level, in either text
-
-module _ (k : Kind) (v : ℤ) (at : ℕ) (f : SFits w64 v) (long : ℕ) (e : k ≡ kind.Level) where
-  pub set-level-room : at + length (setText k v) ≤ long → at + length (levelText (kept v)) ≤ long
+module _ (k : Kind) (v : ℤ) (at : ℕ) (f : SFits w64 v) where
+  pub level-room : (long : ℕ) → k ≡ kind.Level → at + length (textOf k v) ≤ long → at + length (levelText (kept v)) ≤ long
   unfolding textOf
-  set-level-room h = rw (toZ-ofZ f) (rw e at h)
+  level-room long e h = rw (toZ-ofZ f) (rw e at h)
 
-  pub told-level-room : at + length (replyText k v) ≤ long → at + length (oneDecimalText (kept v)) ≤ long
-  unfolding textOf
-  told-level-room h = rw (toZ-ofZ f) (rw e at h)
-
-  -- in a reply there is room for the shortest text too, so that a reply with it is refused for its bytes
-  pub told-shortest-room : at + length (replyText k v) ≤ long → at + length (levelText (kept v)) ≤ long
-  told-shortest-room h =
-      let d = decimal-longer (kept v) in
-      let r = told-level-room h in
-      omega arith
-
--- ---- a value, by its kind
-
-module _ (level : ℤ → List ℕ) (k : Kind) (v : ℤ) (at : ℕ) (f : SFits w64 v) where
-  pub switch-room : (size long : ℕ) → k ≡ kind.Switch → size ≡ natAbs (kept v) → at + length (textOf level k v) ≤ long → at + length (switchText size) ≤ long
+  pub switch-room : (size long : ℕ) → k ≡ kind.Switch → size ≡ natAbs (kept v) → at + length (textOf k v) ≤ long → at + length (switchText size) ≤ long
   unfolding textOf
   switch-room size long e s h = rw (s, toZ-ofZ f) (rw e at h)
 
-  pub number-room : (size long : ℕ) → k ≡ kind.Number → size ≡ natAbs (kept v) → at + length (textOf level k v) ≤ long → at + length (digits size) ≤ long
+  pub number-room : (size long : ℕ) → k ≡ kind.Number → size ≡ natAbs (kept v) → at + length (textOf k v) ≤ long → at + length (digits size) ≤ long
   unfolding textOf
   number-room size long e s h = rw (s, toZ-ofZ f) (rw e at h)
 
   -- where there is room for a number there is for a switch, so that a number written as one is refused for its bytes
-  pub letter-room : (size long : ℕ) → k ≡ kind.Number → at + length (textOf level k v) ≤ long → at + length (switchText size) ≤ long
+  pub letter-room : (size long : ℕ) → k ≡ kind.Number → at + length (textOf k v) ≤ long → at + length (switchText size) ≤ long
   unfolding textOf
   letter-room size long e h =
       let r = rw e at h in
       omega (arith, switch-length size, some-digits (natAbs v))
 
-  pub wrote-level : (r : ℕ) (l m : List ℕ) → k ≡ kind.Level → Wrote l at (level (kept v)) r m → Wrote l at (textOf level k v) r m
+  pub wrote-level : (r : ℕ) (l m : List ℕ) → k ≡ kind.Level → Wrote l at (levelText (kept v)) r m → Wrote l at (textOf k v) r m
   unfolding textOf
   wrote-level r l m e w = rw e (rw (toZ-ofZ f) at w)
 
-  pub wrote-switch : (size r : ℕ) (l m : List ℕ) → k ≡ kind.Switch → size ≡ natAbs (kept v) → Wrote l at (switchText size) r m
-      → Wrote l at (textOf level k v) r m
+  pub wrote-switch : (size r : ℕ) (l m : List ℕ) → k ≡ kind.Switch → size ≡ natAbs (kept v) → Wrote l at (switchText size) r m → Wrote l at (textOf k v) r m
   unfolding textOf
   wrote-switch size r l m e s w = rw e (rw (s, toZ-ofZ f) at w)
 
-  pub wrote-number : (size r : ℕ) (l m : List ℕ) → k ≡ kind.Number → size ≡ natAbs (kept v) → Wrote l at (digits size) r m → Wrote l at (textOf level k v) r m
+  pub wrote-number : (size r : ℕ) (l m : List ℕ) → k ≡ kind.Number → size ≡ natAbs (kept v) → Wrote l at (digits size) r m → Wrote l at (textOf k v) r m
   unfolding textOf
   wrote-number size r l m e s w = rw e (rw (s, toZ-ofZ f) at w)
 
-pub ruleset text-writing =
-    (set-level-room, told-level-room, told-shortest-room, switch-room, number-room, letter-room, wrote-level, wrote-switch, wrote-number)
+pub ruleset text-writing = (level-room, switch-room, number-room, letter-room, wrote-level, wrote-switch, wrote-number)

@@ -14,7 +14,7 @@ use Rattle.text.specs.Cut.{indexOf}
 use Rattle.text.specs.Cut.Laws.{index-none}
 use Rattle.text.specs.Digits.{isDigit, allDigits, digits}
 use Rattle.text.specs.Digits.Laws.{is-digit, digit-and-rest, digits-are-digits}
-use Rattle.text.specs.Level.{signText, tenthText, shortTenthText, wholeText, levelText, oneDecimalText}
+use Rattle.text.specs.Level.{signText, tenthText, shortTenthText, wholeText, levelText}
 use Rattle.text.specs.Switch.{switchText}
 use Rattle.text.specs.Every.{every}
 use Rattle.text.specs.Every.Laws.{every-append, every-weaker, never}
@@ -66,11 +66,6 @@ unfolding levelText
 level-bytes v =
     every-append valueByte (wholeText v) (shortTenthText (natAbs v % 10)) (whole-bytes v)
     (short-tenth-bytes (natAbs v % 10) (omega arith))
-
-pub decimal-bytes : (v : ℤ) → every valueByte (oneDecimalText v) ≡ true
-unfolding oneDecimalText
-decimal-bytes v =
-    every-append valueByte (wholeText v) (tenthText (natAbs v % 10)) (whole-bytes v) (tenth-bytes (natAbs v % 10) (omega arith))
 
 letter-bytes : (t : Bool) → every valueByte (cond t 70 79 ∷ []) ≡ true
 unfolding every valueByte isDigit

@@ -5,7 +5,7 @@ use Prim.Native.Nat.{ℕ}
 use lib.IntN.{ℤ, pos, negsuc}
 use Rattle.text.specs.Digits.{isDigit, digitsWithin, digits}
 use Rattle.text.specs.Switch.Examples.{Gives}
-use Rattle.text.specs.Level.{signed, levelTenth, levelPoint, levelMore, levelWhole, readLevel, signText, tenthText, shortTenthText, wholeText, levelText, oneDecimalText}
+use Rattle.text.specs.Level.{signed, levelTenth, levelPoint, levelMore, levelWhole, readLevel, signText, tenthText, shortTenthText, wholeText, levelText}
 use Rattle.text.specs.declared.level.Level.{Level}
 use Rattle.text.specs.declared.level.Level.the-variants as level
 
@@ -47,18 +47,3 @@ levels-written-cases =
 pub levels-written : Gives levelText levels-written-cases
 unfolding digitsWithin digits signText tenthText shortTenthText wholeText levelText
 levels-written = refl
-
--- levels with exactly one decimal
-abbrev decimals-written-cases : List (ℤ × List ℕ)
-decimals-written-cases =
-    (negsuc 39, 45 ∷ 52 ∷ 46 ∷ 48 ∷ []) ∷  -- `-4.0`
-    (pos 5, 48 ∷ 46 ∷ 53 ∷ []) ∷  -- `0.5`
-    (negsuc 4, 45 ∷ 48 ∷ 46 ∷ 53 ∷ []) ∷  -- `-0.5`
-    (pos 0, 48 ∷ 46 ∷ 48 ∷ []) ∷  -- `0.0`
-    (pos 120, 49 ∷ 50 ∷ 46 ∷ 48 ∷ []) ∷  -- `12.0`
-    (negsuc 604, 45 ∷ 54 ∷ 48 ∷ 46 ∷ 53 ∷ []) ∷  -- `-60.5`
-    []
-
-pub decimals-written : Gives oneDecimalText decimals-written-cases
-unfolding digitsWithin digits signText tenthText wholeText oneDecimalText
-decimals-written = refl

@@ -12,7 +12,7 @@ use lib.ListN.{length, length-append}
 use Rattle.text.specs.Digits.{isDigit, allDigits, digits}
 use Rattle.text.specs.Digits.Laws.{one-digit, more-digits, is-digit, digit-range, digit-and-rest, digits-are-digits, some-digits}
 use Rattle.text.specs.Digits.Value.{digits-short}
-use Rattle.text.specs.Level.{signed, levelTenth, levelPoint, levelMore, levelWhole, readLevel, signText, tenthText, shortTenthText, wholeText, levelText, oneDecimalText}
+use Rattle.text.specs.Level.{signed, levelTenth, levelPoint, levelMore, levelWhole, readLevel, signText, tenthText, shortTenthText, wholeText, levelText}
 use Rattle.text.specs.Level.Told.{Told, level-said, tenth-short}
 use Rattle.text.specs.declared.level.Level.the-variants.{Tenths}
 
@@ -32,10 +32,6 @@ pub level-length : (v : ℤ)
 unfolding levelText
 level-length v = length-append (wholeText v) (shortTenthText (natAbs v % 10)) ∙ rw (whole-length v)
 
-pub decimal-length : (v : ℤ) → length (oneDecimalText v) ≡ length (signText v) + length (digits (natAbs v / 10)) + 2
-unfolding oneDecimalText tenthText
-decimal-length v = length-append (wholeText v) (tenthText (natAbs v % 10)) ∙ rw (whole-length v)
-
 module _ (v : ℤ) (h : natAbs v < 1000) where
   whole-digits : length (digits (natAbs v / 10)) ≤ 2
   whole-digits = digits-short (natAbs v / 10) 2 (omega arith) (omega arith)
@@ -47,12 +43,6 @@ module _ (v : ℤ) (h : natAbs v < 1000) where
       let d = whole-digits in
       let t = tenth-short (natAbs v % 10) in
       rw (level-length v) (omega arith)
-
-  pub decimal-at-most-five : length (oneDecimalText v) ≤ 5
-  decimal-at-most-five =
-      let s = sign-short v in
-      let d = whole-digits in
-      rw (decimal-length v) (omega arith)
 
 -- ---- what is read
 
@@ -164,20 +154,12 @@ unfolding wholeText signText negative readLevel
 sign-back (pos n) t = no-sign (digits (n / 10)) t (digits-are-digits (n / 10)) (some-digits (n / 10))
 sign-back (negsuc n) t = refl
 
-text-back : (v : ℤ) (t : List ℕ) → natAbs v < 1000 → Stops t
-    → levelPoint (negative v) (natAbs v / 10) t ≡ Tenths (signed (negative v) (natAbs v / 10 * 10 + natAbs v % 10)) → readLevel (wholeText v ++ t) ≡ Tenths v
-text-back v t h p e =
-    let n : natAbs v / 10 * 10 + natAbs v % 10 ≡ natAbs v = omega arith in
-    sign-back v t ∙ whole-back (negative v) (natAbs v / 10) t (omega arith) p ∙ e ∙ ap Tenths (ap (signed (negative v)) n ∙ signed-back v)
-
 pub level-back : (v : ℤ) → natAbs v < 1000 → readLevel (levelText v) ≡ Tenths v
 unfolding levelText
 level-back v h =
-    text-back v (shortTenthText (natAbs v % 10)) h (short-stops (natAbs v % 10))
-    (short-back (negative v) (natAbs v / 10) (natAbs v % 10) (omega arith))
-
-pub decimal-back : (v : ℤ) → natAbs v < 1000 → readLevel (oneDecimalText v) ≡ Tenths v
-unfolding oneDecimalText
-decimal-back v h =
-    text-back v (tenthText (natAbs v % 10)) h (point-stops (natAbs v % 10))
-    (tenth-back (negative v) (natAbs v / 10) (natAbs v % 10) (omega arith))
+    let tenth = natAbs v % 10 in
+    let n : natAbs v / 10 * 10 + natAbs v % 10 ≡ natAbs v = omega arith in
+    sign-back v (shortTenthText tenth)
+    ∙ whole-back (negative v) (natAbs v / 10) (shortTenthText tenth) (omega arith) (short-stops tenth)
+    ∙ short-back (negative v) (natAbs v / 10) tenth (omega arith)
+    ∙ ap Tenths (ap (signed (negative v)) n ∙ signed-back v)

@@ -4,10 +4,10 @@ use mathlib.Core.Bool.{Bool, true, false}
 use mathlib.Core.List.{[], _∷_}
 use Prim.Native.Nat.{ℕ, zero, suc, _+_, _-_, _^_, _≤_, _<_}
 use native.Mathlib.Omega.{arith}
-use borrow.Author.Tests.{ltb-true}
+use borrow.Author.Tests.{le-leb, ltb-true}
 use lib.Dec.{T}
 use lib.IntN.{ℤ, pos, negsuc, negℤ, natAbs, _+ℤ_, _-ℤ_, +ℤ-idl, +ℤ-one}
-use lib.Signed.{ltZ, nonNeg}
+use lib.Signed.{ltZ, leZ, nonNeg}
 use mir.Syntax.{w64}
 use mir.Val.{Fits, SFits, toZ, ofZ, hbits}
 use mir.Facts.{toZ-ofZ, toZ-pos}
@@ -135,3 +135,21 @@ sign-minus v f t = minus-text v (rw (toZ-ofZ f) at t)
 
 pub sign-none : (v : ℤ) → SFits w64 v → ltZ (kept v) (pos 0) ≡ false → signText v ≡ []
 sign-none v f t = no-text v (rw (toZ-ofZ f) at t)
+
+-- ---- the same, where the code asks whether v is 0 or above
+
+plain-text : (v : ℤ) → leZ (pos 0) v ≡ true → signText v ≡ []
+unfolding signText
+plain-text (pos n) t = refl
+plain-text (negsuc n) t = absurd (let z : _≡_ {A = ℕ} 0 1 = cc in omega arith)
+
+below-text : (v : ℤ) → leZ (pos 0) v ≡ false → signText v ≡ 45 ∷ []
+unfolding signText
+below-text (pos n) t = absurd (let z : _≡_ {A = ℕ} 0 1 = cc (le-leb 0 n (omega arith)) in omega arith)
+below-text (negsuc n) t = refl
+
+pub no-minus : (v : ℤ) → SFits w64 v → leZ (pos 0) (kept v) ≡ true → signText v ≡ []
+no-minus v f t = plain-text v (rw (toZ-ofZ f) at t)
+
+pub a-minus : (v : ℤ) → SFits w64 v → leZ (pos 0) (kept v) ≡ false → signText v ≡ 45 ∷ []
+a-minus v f t = below-text v (rw (toZ-ofZ f) at t)

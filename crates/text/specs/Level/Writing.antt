@@ -6,28 +6,28 @@ use Prim.Native.Nat.{ℕ, _+_, _/_, _%_, _≤_}
 use native.Mathlib.Omega.{arith}
 use lib.IntN.{ℤ, pos, natAbs}
 use lib.ListN.{length}
-use lib.Signed.{ltZ}
+use lib.Signed.{leZ}
 use mir.Syntax.{w64}
 use mir.Val.{SFits}
 use mir.Facts.{toZ-ofZ}
 use Rattle.text.specs.Digits.{digits}
-use Rattle.text.specs.Level.{signText, tenthText, shortTenthText, wholeText, levelText, oneDecimalText}
-use Rattle.text.specs.Level.Sign.{kept, sign-minus, sign-none}
+use Rattle.text.specs.Level.{signText, tenthText, shortTenthText, wholeText, levelText}
+use Rattle.text.specs.Level.Sign.{kept, a-minus, no-minus}
 use Rattle.text.specs.Level.Told.{short-none, short-some, tenth-long}
 use Rattle.text.specs.Written.{Wrote}
 use Rattle.text.specs.Written.Laws.{past-by, room-first, room-second, wrote-join, wrote-length, wrote-nothing}
 
 module _ (v : ℤ) (at : ℕ) (f : SFits w64 v) where
-  pub sign-room : (long : ℕ) → ltZ (kept v) (pos 0) ≡ true → at + length (signText v) ≤ long → at + 1 ≤ long
-  sign-room long t r = rw (sign-minus v f t) at r
+  pub wrote-no-sign : (l : List ℕ) → leZ (pos 0) (kept v) ≡ true → Wrote l at (signText v) at l
+  wrote-no-sign l t = rw (no-minus v f t) (wrote-nothing l at)
 
-  pub wrote-minus : (l : List ℕ) (r : ℕ) (m : List ℕ) → ltZ (kept v) (pos 0) ≡ true → Wrote l at (45 ∷ []) r m → Wrote l at (signText v) r m
-  wrote-minus l r m t w = rw (sign-minus v f t) w
+  pub sign-room : (long : ℕ) → leZ (pos 0) (kept v) ≡ false → at + length (signText v) ≤ long → at + 1 ≤ long
+  sign-room long t r = rw (a-minus v f t) at r
 
-  pub wrote-no-sign : (l : List ℕ) → ltZ (kept v) (pos 0) ≡ false → Wrote l at (signText v) at l
-  wrote-no-sign l t = rw (sign-none v f t) (wrote-nothing l at)
+  pub wrote-minus : (l : List ℕ) (r : ℕ) (m : List ℕ) → leZ (pos 0) (kept v) ≡ false → Wrote l at (45 ∷ []) r m → Wrote l at (signText v) r m
+  wrote-minus l r m t w = rw (a-minus v f t) w
 
-pub ruleset sign-writing = (sign-room, wrote-minus, wrote-no-sign)
+pub ruleset sign-writing = (wrote-no-sign, sign-room, wrote-minus)
 
 pub wrote-tenth : (l : List ℕ) (at d j r : ℕ) (m k : List ℕ) → Wrote l at (46 ∷ []) j m → Wrote m j ((48 + d) ∷ []) r k → Wrote l at (tenthText d) r k
 unfolding tenthText
@@ -58,10 +58,6 @@ pub level-first : (v : ℤ) (at long : ℕ) → at + length (levelText v) ≤ lo
 unfolding levelText
 level-first v at long r = room-first (wholeText v) (shortTenthText (natAbs v % 10)) at long r
 
-pub decimal-first : (v : ℤ) (at long : ℕ) → at + length (oneDecimalText v) ≤ long → at + length (wholeText v) ≤ long
-unfolding oneDecimalText
-decimal-first v at long r = room-first (wholeText v) (tenthText (natAbs v % 10)) at long r
-
 module _ (v : ℤ) (l : List ℕ) (at j size : ℕ) (m : List ℕ) (f : SFits w64 v) (w : Wrote l at (wholeText (kept v)) j m) (e : size ≡ natAbs (kept v)) where
   wrote : Wrote l at (wholeText v) j m
   wrote = rw (toZ-ofZ f) at w
@@ -84,14 +80,4 @@ module _ (v : ℤ) (l : List ℕ) (at j size : ℕ) (m : List ℕ) (f : SFits w6
   unfolding levelText
   wrote-level r k z b = rw (short-some (natAbs v % 10) (rw size-is at z)) (rw size-is at (wrote-join wrote b))
 
-  pub decimal-second : at + length (oneDecimalText v) ≤ length l → j + 2 ≤ length m
-  unfolding oneDecimalText
-  decimal-second r = rw (tenth-long (natAbs v % 10)) at (room-second (wholeText v) (tenthText (natAbs v % 10)) l at j m r wrote)
-
-  pub wrote-decimal : (r : ℕ) (k : List ℕ) → Wrote m j (tenthText (size % 10)) r k → Wrote l at (oneDecimalText v) r k
-  unfolding oneDecimalText
-  wrote-decimal r k b = rw size-is at (wrote-join wrote b)
-
 pub ruleset level-writing = (level-first, level-second, wrote-short, wrote-level)
-
-pub ruleset decimal-writing = (decimal-first, decimal-second, wrote-decimal)

@@ -1,4 +1,4 @@
--- `put_get`: what stands before the value, the value and 0D, one behind the other.
+-- `put_get`: the line with the verb `GA`.
 use borrow.Author.Needs.{needs}
 use Rattle.room.specs.Label.Length.{label-long}
 use Rattle.spelling.specs.Reply.Writing.{get-writing}
@@ -11,7 +11,5 @@ put-get-spec =
     (tie.spec
     (λ c κs. search needs)
     (λ c κs. search (get-writing, label-long, needs))
-    (λ c κs. search (get-writing, needs))
-    (λ c κs. search (get-writing, needs))
     (λ c. search (get-writing, needs))
     (λ c. search (get-writing, needs)))

@@ -1,6 +1,6 @@
--- `put_say_line`: what stands before the value, the value behind it, and 0D.
+-- `put_say_line`: the line with the verb `SA`.
 use borrow.Author.Needs.{needs}
-use Rattle.spelling.specs.Say.Writing.{line-writing}
+use Rattle.spelling.specs.Say.Writing.{say-writing}
 use Rattle.spelling.proofs.set_line.put_say_line.Statement.{statement}
 use Rattle.spelling.proofs.set_line.put_say_line.Tie as tie
 
@@ -8,8 +8,6 @@ pub put-say-line-spec : {M : Type 1} → statement M
 put-say-line-spec =
     tie.close
     (tie.spec
-    (λ c κs. search (line-writing, needs))
-    (λ c κs. search (line-writing, needs))
-    (λ c κs. search (line-writing, needs))
-    (λ c. search (line-writing, needs))
-    (λ c. search (line-writing, needs)))
+    (λ c κs. search (say-writing, needs))
+    (λ c. search (say-writing, needs))
+    (λ c. search (say-writing, needs)))

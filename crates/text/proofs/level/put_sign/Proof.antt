@@ -8,7 +8,7 @@ pub put-sign-spec : {M : Type 1} → statement M
 put-sign-spec =
     tie.close
     (tie.spec
+    (λ c. search (sign-writing, needs))
     (λ c κs. search (sign-writing, needs))
     (λ c. search needs)
-    (λ c. search (sign-writing, needs))
     (λ c. search (sign-writing, needs)))
