@@ -18,14 +18,21 @@ use Rattle.text.specs.Level.{signText, tenthText, shortTenthText, wholeT
 use Rattle.text.specs.Switch.{switchText}
 use Rattle.text.specs.Every.{every}
 use Rattle.text.specs.Every.Laws.{every-append, every-weaker, never}
+use Rattle.text.specs.Hex.{isHexDigit}
+use Rattle.text.specs.Word.{hexText}
+use Rattle.text.specs.Word.Text.{word-hex}
 
--- a digit, `-`, `.`, `F` or `O`
+-- a hex digit, `-`, `.` or `O`; `F` is a hex digit too
 unfoldable pub valueByte : ℕ → Bool
-valueByte b = isDigit b || eqb b 45 || eqb b 46 || eqb b 70 || eqb b 79
+valueByte b = isHexDigit b || eqb b 45 || eqb b 46 || eqb b 79
 
 digit-byte : (b : ℕ) → isDigit b ≡ true → valueByte b ≡ true
-unfolding valueByte
+unfolding valueByte isHexDigit
 digit-byte b h = rw h
+
+hex-byte : (b : ℕ) → isHexDigit b ≡ true → valueByte b ≡ true
+unfolding valueByte
+hex-byte b h = rw h
 
 -- ---- each text is made of them
 
@@ -40,12 +47,12 @@ pub digits-bytes : (n : ℕ) → every valueByte (digits n) ≡ true
 digits-bytes n = all-digit-bytes (digits n) (digits-are-digits n)
 
 sign-bytes : (v : ℤ) → every valueByte (signText v) ≡ true
-unfolding every valueByte signText isDigit
+unfolding every valueByte signText isHexDigit isDigit
 sign-bytes (pos n) = refl
 sign-bytes (negsuc n) = refl
 
 point-byte : valueByte 46 ≡ true
-unfolding valueByte isDigit
+unfolding valueByte isHexDigit isDigit
 point-byte = refl
 
 tenth-bytes : (d : ℕ) → d < 10 → every valueByte (tenthText d) ≡ true
@@ -68,7 +75,7 @@ level-bytes v =
     (short-tenth-bytes (natAbs v % 10) (omega arith))
 
 letter-bytes : (t : Bool) → every valueByte (cond t 70 79 ∷ []) ≡ true
-unfolding every valueByte isDigit
+unfolding every valueByte isHexDigit isDigit
 letter-bytes true = refl
 letter-bytes false = refl
 
@@ -76,24 +83,31 @@ pub switch-bytes : (n : ℕ) → every valueByte (switchText n) ≡ true
 unfolding switchText
 switch-bytes n = letter-bytes (eqb n 0)
 
+pub word-bytes : (w : ℕ) → every valueByte (hexText w) ≡ true
+word-bytes w = every-weaker isHexDigit valueByte hex-byte (hexText w) (word-hex w)
+
 -- ---- and has none of the others
 
 pub no-other : (b : ℕ) (s : List ℕ) → valueByte b ≡ false → every valueByte s ≡ true → indexOf b s ≡ length s
 no-other b s n h = index-none valueByte b s h n
 
--- 0D, and `=`
+-- 0D, a quote, and `=`
 pub return-other : valueByte 0x0D ≡ false
-unfolding valueByte isDigit
+unfolding valueByte isHexDigit isDigit
 return-other = refl
 
+pub quote-other : valueByte 0x22 ≡ false
+unfolding valueByte isHexDigit isDigit
+quote-other = refl
+
 pub equals-other : valueByte 0x3D ≡ false
-unfolding valueByte isDigit
+unfolding valueByte isHexDigit isDigit
 equals-other = refl
 
 -- ---- they are bytes
 
 below-256 : (b : ℕ) → valueByte b ≡ true → isByte b ≡ true
-unfolding valueByte isDigit isByte
+unfolding valueByte isHexDigit isDigit isByte
 below-256 b h = go (decLt b 256)
   where
     go : Dec (b < 256) → ltb b 256 ≡ true
@@ -103,9 +117,10 @@ below-256 b h = go (decLt b 256)
         (rw (
           le-leb 48 b (omega arith),
           lt-leb b 57 (omega arith),
+          le-leb 65 b (omega arith),
+          lt-leb b 70 (omega arith),
           ne-eqb b 45 (λ e. omega arith),
           ne-eqb b 46 (λ e. omega arith),
-          ne-eqb b 70 (λ e. omega arith),
           ne-eqb b 79 (λ e. omega arith),
         ) at h)
 
