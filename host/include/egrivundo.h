@@ -47,7 +47,7 @@ extern "C" {
 #define EGRIVUNDO_FEEDBACK_SUPPRESSION 6   /*  2 values */
 
 /* Answers. With 1 to 8 the told numbers become 0 and nothing else changes;
- * where several apply, the lowest is given. */
+ * where several apply, the first in its call's order is given. */
 #define EGRIVUNDO_OK 0                /* accepted                             */
 #define EGRIVUNDO_REFUSED_TABLE 1     /* the table is not sound               */
 #define EGRIVUNDO_REFUSED_VALUES 2    /* values: wrong length, or one that is
