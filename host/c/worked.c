@@ -16,8 +16,9 @@ static void expect(int right, const char *what)
     }
 }
 
-/* Gives one line with its end to a fresh port, and compares its reply. */
-static void line(const char *text, const char *reply, size_t place, int64_t value)
+/* Gives one line with its end to a fresh port, and compares its reply and what is told. */
+static void line(const char *text, const char *reply, size_t place, int64_t value, uint64_t cause,
+                 uint64_t at)
 {
     int64_t values[7] = {0};
     int64_t expected[7] = {0};
@@ -29,6 +30,7 @@ static void line(const char *text, const char *reply, size_t place, int64_t valu
     expected[place] = value;
     expect(answer == EGRIVUNDO_OK, text);
     expect(told[0] == strlen(text) && told[1] == strlen(reply), text);
+    expect(told[2] == cause && told[3] == at, text);
     expect(memcmp(buffer, reply, strlen(reply)) == 0, text);
     expect(memcmp(values, expected, sizeof values) == 0, text);
     expect(port[0] == 0 && port[1] == 0, text);
@@ -58,20 +60,24 @@ static void overrun(void)
     int64_t values[7] = {0};
     uint8_t port[EGRIVUNDO_PORT_BYTES] = {0};
     uint8_t buffer[EGRIVUNDO_REPLY_BYTES] = {0};
-    uint64_t told[EGRIVUNDO_PORT_TOLD] = {9, 9};
+    uint64_t told[EGRIVUNDO_PORT_TOLD] = {9, 9, 9, 9};
     const uint8_t given[2] = {'x', '\r'};
     uint8_t answer;
     port[1] = 7;
     answer = egrivundo_port(table, sizeof table, values, 7, port, given, 0, buffer, 64, told);
     expect(answer == EGRIVUNDO_OK && told[0] == 0 && told[1] == 0, "no bytes given");
+    expect(told[2] == EGRIVUNDO_FAULT_NONE && told[3] == 0, "no bytes given tell no cause");
     expect(port[1] == 7, "no bytes given change nothing");
-    told[0] = 9;
+    told[0] = told[2] = told[3] = 9;
     answer = egrivundo_port(table, sizeof table, values, 7, port, given, 1, buffer, 63, told);
     expect(answer == EGRIVUNDO_REFUSED_REPLY && told[0] == 0 && port[1] == 7, "a refusal");
+    expect(told[2] == 0 && told[3] == 0, "a refusal tells no cause");
     answer = egrivundo_port(table, sizeof table, values, 7, port, given, 1, buffer, 64, told);
     expect(answer == EGRIVUNDO_OK && told[0] == 1 && port[1] == 1, "an overrun line goes on");
+    expect(told[2] == 0 && told[3] == 0, "an overrun line that goes on tells no cause");
     answer = egrivundo_port(table, sizeof table, values, 7, port, given, 2, buffer, 64, told);
     expect(answer == EGRIVUNDO_OK && told[0] == 2 && told[1] == 4, "an overrun line ends");
+    expect(told[2] == EGRIVUNDO_FAULT_OVERRUN && told[3] == 64, "why it was 99");
     expect(memcmp(buffer, "\x15" "99\r", 4) == 0 && port[0] == 0 && port[1] == 0, "one 99");
 }
 
@@ -93,18 +99,22 @@ int main(void)
     table[EGRIVUNDO_RECORD_BYTES + 1] = 'S';
     expect(egrivundo_table(table, sizeof table) == EGRIVUNDO_OK, "table A");
     expect(egrivundo_table(table, sizeof table - 1) == EGRIVUNDO_REFUSED_TABLE, "a cut table");
-    line("SA\"T\">1=15\r", "\x06\r", 0, 150);
-    line("SA\"T\">1=15.1\r", "\x15" "03\r", 0, 0);
-    line("SA \"T\">01=-04\r", "\x06\r", 0, -40);
-    line("SA\"T\">1=-0\r", "\x06\r", 0, 0);
-    line("SA\"T\">1=.5\r", "\x15" "03\r", 0, 0);
-    line("SA\"T\">2=T\r", "\x06\r", 1, 1);
-    line("GA\"S\">1\r", "GA\"S\">1=F\r", 0, 0);
-    line("GA\"T\">1\r", "GA\"T\">1=0\r", 0, 0);
-    line("SA\"Q\">9=x\r", "\x15" "01\r", 0, 0);
-    line("SA\"T\">9=x\r", "\x15" "02\r", 0, 0);
-    line("SA\"T\">1>0=1\r", "\x15" "02\r", 0, 0);
-    line("SA\"T\">1\r", "\x15" "99\r", 0, 0);
+    line("SA\"T\">1=15\r", "\x06\r", 0, 150, 0, 0);
+    line("SA\"T\">1=15.1\r", "\x15" "03\r", 0, 0, 0, 0);
+    line("SA \"T\">01=-04\r", "\x06\r", 0, -40, 0, 0);
+    line("SA\"T\">1=-0\r", "\x06\r", 0, 0, 0, 0);
+    line("SA\"T\">1=.5\r", "\x15" "03\r", 0, 0, 0, 0);
+    line("SA\"T\">2=T\r", "\x06\r", 1, 1, 0, 0);
+    line("GA\"S\">1\r", "GA\"S\">1=F\r", 0, 0, 0, 0);
+    line("GA\"T\">1\r", "GA\"T\">1=0\r", 0, 0, 0, 0);
+    line("SA\"Q\">9=x\r", "\x15" "01\r", 0, 0, 0, 0);
+    line("SA\"T\">9=x\r", "\x15" "02\r", 0, 0, 0, 0);
+    line("SA\"T\">1>0=1\r", "\x15" "02\r", 0, 0, 0, 0);
+    line("SA\"T\">1\r", "\x15" "99\r", 0, 0, EGRIVUNDO_FAULT_NO_EQUALS, 7);
+    line("SA\"T\r", "\x15" "99\r", 0, 0, EGRIVUNDO_FAULT_NO_CLOSING_QUOTE, 4);
+    line("SA \r", "\x15" "99\r", 0, 0, EGRIVUNDO_FAULT_NO_OPENING_QUOTE, 3);
+    line("SA\r", "\x15" "99\r", 0, 0, EGRIVUNDO_FAULT_NO_OPENING_QUOTE, 2);
+    line("S\r", "\x15" "99\r", 0, 0, EGRIVUNDO_FAULT_NO_VERB, 0);
     restore();
     overrun();
     show();

@@ -6,7 +6,7 @@
  *
  * A lent slice is a pointer and a count, in this order; a count is a number
  * of elements and not of bytes. A block of fixed size is a pointer alone:
- * uint8_t port[66], uint64_t told[2]. Whatever stands in them, and whatever
+ * uint8_t port[66], uint64_t told[4]. Whatever stands in them, and whatever
  * is counted, every call gives one of its answers and returns. No function
  * keeps a pointer, allocates, or has a state of its own.
  *
@@ -34,7 +34,7 @@ extern "C" {
 #define EGRIVUNDO_HELD_BYTES 64   /* of an unfinished line, at most        */
 #define EGRIVUNDO_REPLY_BYTES 64  /* that a reply buffer must have         */
 #define EGRIVUNDO_PORT_BYTES 66   /* of a port: held count, overrun, bytes */
-#define EGRIVUNDO_PORT_TOLD 2     /* numbers told by the port call         */
+#define EGRIVUNDO_PORT_TOLD 4     /* numbers told by the port call         */
 #define EGRIVUNDO_RESTORE_TOLD 2  /* numbers told by the restore call      */
 #define EGRIVUNDO_LOG_TOLD 3      /* numbers told by the log call          */
 
@@ -61,6 +61,16 @@ extern "C" {
 #define EGRIVUNDO_REFUSED_REACH 7     /* a wanted change is on a read-only row
                                        * or on a label of several modules     */
 #define EGRIVUNDO_REFUSED_LIST 8      /* the list does not fit its buffer     */
+
+/* Why a line was answered with 99; the first that applies is told. The place
+ * is the byte of the line where it shows, counted from 0, also where the line
+ * came in several calls. */
+#define EGRIVUNDO_FAULT_NONE 0
+#define EGRIVUNDO_FAULT_OVERRUN 1          /* over 64 bytes; at 64            */
+#define EGRIVUNDO_FAULT_NO_VERB 2          /* neither SA nor GA; at 0         */
+#define EGRIVUNDO_FAULT_NO_OPENING_QUOTE 3 /* at 2, or 3 behind a space       */
+#define EGRIVUNDO_FAULT_NO_CLOSING_QUOTE 4 /* at the line's end               */
+#define EGRIVUNDO_FAULT_NO_EQUALS 5        /* of SA; at the line's end        */
 
 /* Whether a table is sound.
  *   table  records of 33 bytes, 0 to 64 of them
@@ -92,7 +102,9 @@ void egrivundo_log(const uint8_t *table, size_t table_count,
  *   reply   at least 64 bytes; the reply is put at its start, the rest stays.
  *           A get line is answered with the line that a restore list has for
  *           the value, GA for SA: whole decibels have no point
- *   told    [0] bytes consumed, [1] length of the reply (0: none)
+ *   told    [0] bytes consumed, [1] length of the reply (0: none), [2] why the
+ *           line was answered with 99 (0 with any other reply, and without
+ *           one), [3] its place (0 where there is no cause)
  * Answers 0, 1, 2, 3 or 4. */
 uint8_t egrivundo_port(const uint8_t *table, size_t table_count,
                        int64_t *values, size_t values_count,

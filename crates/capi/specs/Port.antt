@@ -1,4 +1,4 @@
--- The port call for C: the port is 66 lent bytes, and two numbers are lent for what the call counts.
+-- The port call for C: the port is 66 lent bytes, and four numbers are lent for what the call tells.
 pub mod Bytes
 pub mod Calling
 pub mod Laws
@@ -11,6 +11,7 @@ use lib.IntN.{ℤ}
 use lib.ListN.{length, getD, drop}
 use Rattle.syntax.specs.Shape.{lineLimit}
 use Rattle.values.specs.Room.{Room}
+use Rattle.line.specs.Fault.{faultNumbers}
 use Rattle.serial_port.specs.Port.{View, view}
 use Rattle.serial_port.specs.Call.{Told, call, step}
 use Rattle.serial_port.specs.Refusal.{callNumber}
@@ -31,9 +32,9 @@ pub record PortAnswer : Type 0 where
 unfoldable pub portTells : (number : ℕ) → (told : List ℕ) → List ℤ → (reply : List ℕ) → PortAnswer
 portTells number told vs reply = record { number = number; told = told; values = vs; reply = reply }
 
--- the two counts: bytes consumed, and the reply's length
+-- the four numbers: bytes consumed, the reply's length, and the cause and the place of a 99
 unfoldable pub counted : Told (List ℤ) → PortAnswer
-counted c = portTells (c .number) (c .consumed ∷ c .sent ∷ []) (c .state) (c .buffer)
+counted c = portTells (c .number) (c .consumed ∷ c .sent ∷ faultNumbers (c .fault)) (c .state) (c .buffer)
 
 -- the whole call but for the port's bytes; a refusal counts zero and changes nothing else
 unfoldable pub portAnswer : Room → List ℤ → (port given reply : List ℕ) → PortAnswer

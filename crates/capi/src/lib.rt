@@ -1,6 +1,8 @@
 // The library's calls for C: each is thin over the proved library, and none asks anything of its caller.
+pub mod fault;
 pub mod port_bytes;
 
+use crate::fault::fault_numbers;
 use crate::port_bytes::port_of;
 use crate::port_bytes::store;
 use log::part::LogPart;
@@ -41,7 +43,7 @@ pub extern "C" fn egrivundo_log(table: &[u8], line: &[u8], told: &mut [u64; 3])
     }
 }
 
-// The port call: `told` becomes the bytes consumed and the reply's length. The port is stored only where bytes are given, as none change nothing.
+// The port call: `told` becomes the bytes consumed, the reply's length, and the cause and place of a 99. The port is stored only where bytes are given, as none change nothing.
 #[no_mangle]
 pub extern "C" fn egrivundo_port(
     table: &[u8],
@@ -49,12 +51,16 @@ pub extern "C" fn egrivundo_port(
     port: &mut [u8; 66],
     given: &[u8],
     reply: &mut [u8],
-    told: &mut [u64; 2],
+    told: &mut [u64; 4],
 ) -> u8
     ensures { λ r. ⌜ PortCalled (roomOf (now (table .entry))) (now (values .entry)) (now (port .entry)) (now (given .entry)) (now (reply .entry)) r (now (values .exit)) (now (port .exit)) (now (reply .exit)) (now (told .exit)) ⌝ }
 {
     let called = port_of(port).take(table, values, given, reply);
-    *told = [called.consumed as u64, called.sent as u64];
+    let why = called.fault;
+    let fault = fault_numbers(why);
+    let consumed = called.consumed as u64;
+    let sent = called.sent as u64;
+    *told = [consumed, sent, fault[0], fault[1]];
     if called.number != 0 {
         return called.number;
     }

@@ -1,4 +1,4 @@
--- What a line means: the first code that applies, a parameter to tell, or a parameter and the value that it is set to.
+-- What a line means: why it is malformed, the first code that applies, a parameter to tell, or a parameter and the value that it is set to.
 pub mod Bearing
 pub mod Laws
 pub mod Reading
@@ -26,7 +26,7 @@ use Rattle.syntax.specs.declared.index_part.IndexPart.the-variants as index
 use Rattle.syntax.specs.declared.value_text.ValueText.{ValueText}
 use Rattle.syntax.specs.declared.value_text.ValueText.the-variants as value
 use Rattle.line.specs.declared.meaning.Meaning.{Meaning}
-use Rattle.line.specs.declared.meaning.Meaning.the-variants.{Code, Get, Put}
+use Rattle.line.specs.declared.meaning.Meaning.the-variants.{Malformed, Code, Get, Put}
 
 -- the parameter of the module m that the index part names
 unfoldable pub indexed : Module → IndexPart → ParameterFound
@@ -62,13 +62,13 @@ setOf r vs text (code n) = Code n
 
 -- the module that alone bears a line's label, which stands between its quotes; a malformed line has no label
 unfoldable pub bearerOf : List ℕ → (line : List ℕ) → Shape → Bearer
-bearerOf t line shape.Malformed = NotOne
+bearerOf t line (shape.Malformed k n) = NotOne
 bearerOf t line (shape.Get o c) = bearer t (part line (o + 1) c)
 bearerOf t line (shape.Set o c e) = bearer t (part line (o + 1) c)
 
--- the parts of a line whose label's bearer is known, in the order of the codes: 99 its shape, 1 its label, 2 its index part, 3 its value text
+-- the parts of a line whose label's bearer is known, in the order of the codes: 99 its shape, with its fault, 1 its label, 2 its index part, 3 its value text
 unfoldable pub ofShape : Room → List ℤ → (line : List ℕ) → Bearer → Shape → Meaning
-ofShape r vs line b shape.Malformed = Code 99
+ofShape r vs line b (shape.Malformed k n) = Malformed k n
 ofShape r vs line b (shape.Get o c) = getOf (inRoom b (readIndices (part line (c + 1) (length line))))
 ofShape r vs line b (shape.Set o c e) = setOf r vs (part line (e + 1) (length line)) (inRoom b (readIndices (part line (c + 1) e)))
 

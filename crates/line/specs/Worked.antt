@@ -22,6 +22,7 @@ use Rattle.room.specs.Label.{label, same, bearersIn, exactlyOne, bearer}
 use Rattle.values.specs.Parameters.{numbered, parametersOf, place, withIndices, named}
 use Rattle.values.specs.Room.{roomOf, rowIn}
 use Rattle.syntax.specs.Shape.{lineLimit, isSet, isGet, opening, closing, equals, getShape, setShape, quoted, shape}
+use Rattle.syntax.specs.Cause.{causeNumber}
 use Rattle.syntax.specs.IndexPart.{oneGroup, twoGroups, groups, readIndices}
 use Rattle.syntax.specs.Value.{ofLevel, ofNumber, ofSwitch, readKind, onlyPermitted, readValue}
 use Rattle.line.specs.Meaning.{indexed, inModule, inRoom, putOf, getOf, setOf, bearerOf, ofShape, meaning}
@@ -31,6 +32,7 @@ use Rattle.spelling.specs.Line.{lineFor}
 use Rattle.spelling.specs.Reply.{getReply}
 use Rattle.spelling.specs.Text.{textOf}
 use Rattle.spelling.specs.Acknowledgement.{ack, nak}
+use Rattle.line.specs.Fault.{faultNumbers}
 use Rattle.line.specs.Answer.{Answer, act, answer}
 use Rattle.values.specs.Values.{equal}
 use Rattle.text.specs.Every.{every}
@@ -42,6 +44,7 @@ pub record Case : Type 0 where
   pub line : List ℕ
   pub reply : List ℕ
   pub values : List ℤ
+  pub fault : List ℕ
 
 -- a record whose label is one byte
 unfoldable pub oneByteRecord : (kind byte : ℕ) → List ℕ
@@ -58,16 +61,19 @@ unfoldable pub bytes : String → List ℕ
 bytes string.[] = []
 bytes (string._∷_ c s) = code c ∷ bytes s
 
--- on the table A with the values all 0: a set line that is acknowledged and puts x into the value k, and a line that is refused with a code
+-- on the table A with the values all 0: a set line that is acknowledged and puts x into the value k, and a line that is refused with a code; a malformed line, with the number of its cause and its place
 unfoldable pub puts : String → ℕ → ℤ → Case
-puts line k x = record { table = tableA; before = zeros; line = bytes line; reply = 0x06 ∷ 0x0D ∷ []; values = set zeros k x }
+puts line k x = record { table = tableA; before = zeros; line = bytes line; reply = 0x06 ∷ 0x0D ∷ []; values = set zeros k x; fault = 0 ∷ 0 ∷ [] }
 
 unfoldable pub refused : String → String → Case
-refused line code = record { table = tableA; before = zeros; line = bytes line; reply = 0x15 ∷ (bytes code ++ (0x0D ∷ [])); values = zeros }
+refused line code = record { table = tableA; before = zeros; line = bytes line; reply = 0x15 ∷ (bytes code ++ (0x0D ∷ [])); values = zeros; fault = 0 ∷ 0 ∷ [] }
 
 -- a get line, in a room of its own
 unfoldable pub told : List ℕ → List ℤ → String → String → Case
-told t vs line reply = record { table = t; before = vs; line = bytes line; reply = bytes reply ++ (0x0D ∷ []); values = vs }
+told t vs line reply = record { table = t; before = vs; line = bytes line; reply = bytes reply ++ (0x0D ∷ []); values = vs; fault = 0 ∷ 0 ∷ [] }
+
+unfoldable pub malformed : String → (cause place : ℕ) → Case
+malformed line cause place = record { table = tableA; before = zeros; line = bytes line; reply = 0x15 ∷ 0x39 ∷ 0x39 ∷ 0x0D ∷ []; values = zeros; fault = cause ∷ place ∷ [] }
 
 -- the source's own get reply, which panels match: the first fader of a room combiner at -3 dB
 unfoldable pub sourceReply : Case
@@ -91,7 +97,14 @@ cases =
     refused "SA\"Q\">9=x" "01" ∷
     refused "SA\"T\">9=x" "02" ∷
     refused "SA\"T\">1>0=1" "02" ∷
-    refused "SA\"T\">1" "99" ∷
+    malformed "SA\"T\">1" 5 7 ∷
+    malformed "" 2 0 ∷
+    malformed "S" 2 0 ∷
+    malformed "SA" 3 2 ∷
+    malformed "SA " 3 3 ∷
+    malformed "SA  \"T\"" 3 3 ∷
+    malformed "SA\"T>1=15" 4 9 ∷
+    malformed "SA\"=\">1" 5 7 ∷
     []
 
 -- value for value the same
@@ -102,14 +115,14 @@ sameValues (x ∷ xs) [] = false
 sameValues (x ∷ xs) (y ∷ ys) = equal x y && sameValues xs ys
 
 unfoldable pub sameAnswer : Answer → Case → Bool
-sameAnswer a c = same (a .reply) (c .reply) && sameValues (a .values) (c .values)
+sameAnswer a c = same (a .reply) (c .reply) && (sameValues (a .values) (c .values) && same (faultNumbers (a .fault)) (c .fault))
 
 -- a line is answered as its case says
 unfoldable pub answered : Case → Bool
 answered c = sameAnswer (answer (roomOf (c .table)) (c .before) (c .line)) c
 
 pub worked : every answered cases ≡ true
-unfolding answered cases bytes puts told refused tableA sourceReply oneByteRecord zeros sameAnswer sameValues equal
+unfolding answered cases bytes puts told refused malformed faultNumbers causeNumber tableA sourceReply oneByteRecord zeros sameAnswer sameValues equal
     indexOf has before after isDigit allDigits every readOn numberOf digitsWithin digits
     signed levelTenth levelPoint levelMore levelWhole readLevel signText tenthText shortTenthText wholeText levelText numberForm readNumber switchLetter readSwitch switchText
     minus level switch number catalogue rowsIn rowsOf permitted bodyLength layoutOf recordLimit modulesFrom modules

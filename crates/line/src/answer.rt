@@ -1,4 +1,5 @@
-// The answer to a line: the reply, and the values afterwards.
+// The answer to a line: the reply, why it was 99, and the values afterwards.
+use crate::fault::Fault;
 use crate::meaning::Meaning;
 use crate::meaning::bearer_of;
 use crate::meaning::meaning_of;
@@ -26,6 +27,12 @@ ghost use Rattle.line.specs.Answer.{Answers};
 ghost use Rattle.line.specs.Answer.Replying.{Tellable};
 ghost use Rattle.spelling.specs.Reply.{getReply};
 ghost use Rattle.spelling.specs.Acknowledgement.{ack};
+
+// How many bytes the reply has, and why it is 99.
+pub struct Answered {
+    pub sent: usize,
+    pub fault: Fault,
+}
 
 // Tells the present value of a parameter.
 fn tell(table: &[u8], values: &[i64], p: Parameter, reply: &mut [u8]) -> usize
@@ -58,26 +65,39 @@ fn answer_shaped(
     bearer: Bearer,
     shape: Shape,
     reply: &mut [u8],
-) -> usize
+) -> Answered
     requires { ⌜ (sound (now table) ≡ true) × (now rows ≡ numbers) × (valuesSound (roomOf (now table)) (now values) ≡ true) ⌝ }
     requires { ⌜ (64 ≤ length (now reply)) × (shape ≡ syntax.shape (now line)) × (bearer ≡ bearerOf (now table) (now line) shape) ⌝ }
     ensures { λ r. ⌜ Answers (roomOf (now (table .entry))) (now (values .entry)) (now (line .entry)) (now (reply .entry)) r (now (values .exit)) (now (reply .exit)) ⌝ }
 {
     match meaning_of(table, rows, values, line, bearer, shape) {
-        Meaning::Code(n) => put_nak(reply, n),
-        Meaning::Get(p) => tell(table, values, p, reply),
-        Meaning::Put(p, x) => put(values, p, x, reply),
+        Meaning::Malformed(cause, place) => Answered {
+            sent: put_nak(reply, 99),
+            fault: Fault::At(cause, place),
+        },
+        Meaning::Code(n) => Answered {
+            sent: put_nak(reply, n),
+            fault: Fault::Nothing,
+        },
+        Meaning::Get(p) => Answered {
+            sent: tell(table, values, p, reply),
+            fault: Fault::Nothing,
+        },
+        Meaning::Put(p, x) => Answered {
+            sent: put(values, p, x, reply),
+            fault: Fault::Nothing,
+        },
     }
 }
 
-// Answers a line: writes the reply at its buffer's start, tells its length, and sets the value that the line puts.
+// Answers a line: writes the reply at its buffer's start, tells its length and why it is 99, and sets the value that the line puts.
 pub fn answer_line(
     table: &[u8],
     rows: &[[i32; 8]; 50],
     values: &mut [i64],
     line: &[u8],
     reply: &mut [u8],
-) -> usize
+) -> Answered
     requires { ⌜ (sound (now table) ≡ true) × (now rows ≡ numbers) × (valuesSound (roomOf (now table)) (now values) ≡ true) ⌝ }
     requires { ⌜ 64 ≤ length (now reply) ⌝ }
     ensures { λ r. ⌜ Answers (roomOf (now (table .entry))) (now (values .entry)) (now (line .entry)) (now (reply .entry)) r (now (values .exit)) (now (reply .exit)) ⌝ }

@@ -1,7 +1,8 @@
-// What a line means: the first code that applies, or the parameter that it names.
+// What a line means: why it is malformed, the first code that applies, or the parameter that it names.
 use room::label::Bearer;
 use room::label::find_bearer;
 use room::table::Module;
+use syntax::cause::Cause;
 use syntax::index_part::IndexPart;
 use syntax::index_part::read_indices;
 use syntax::shape::Shape;
@@ -27,8 +28,9 @@ ghost use Rattle.line.specs.Meaning.Reading.{Holds, KnownBearer, Seated,
 ghost use Rattle.syntax.specs.Shape as syntax;
 ghost use Rattle.syntax.specs.Value.{readValue};
 
-// A code that the line is answered with, a parameter to tell, or a parameter and the value it is set to.
+// Why the line is malformed and where, a code that it is answered with, a parameter to tell, or a parameter and the value it is set to.
 pub enum Meaning {
+    Malformed(Cause, usize),
     Code(u8),
     Get(Parameter),
     Put(Parameter, i64),
@@ -122,7 +124,7 @@ pub(crate) fn meaning_of(
     ensures { λ r. ⌜ r ≡ ofShape (roomOf (now (table .entry))) (now (values .entry)) (now (line .entry)) bearer shape ⌝ }
 {
     match shape {
-        Shape::Malformed => Meaning::Code(99),
+        Shape::Malformed(cause, place) => Meaning::Malformed(cause, place),
         Shape::Get(_, close) => get_line(rows, line, bearer, close),
         Shape::Set(_, close, equal) => set_line(table, rows, values, line, bearer, close, equal),
     }
@@ -143,7 +145,7 @@ pub(crate) fn bearer_of(table: &[u8], line: &[u8], shape: Shape) -> Bearer
     ensures { λ r. ⌜ r ≡ bearerOf (now (table .entry)) (now (line .entry)) shape ⌝ }
 {
     match shape {
-        Shape::Malformed => Bearer::NotOne,
+        Shape::Malformed(_, _) => Bearer::NotOne,
         Shape::Get(quote, close) => quoted_bearer(table, line, quote, close),
         Shape::Set(quote, close, _) => quoted_bearer(table, line, quote, close),
     }

@@ -1,8 +1,11 @@
 // The port: it collects bytes into lines, and answers each line once.
 use crate::refusal::call_number;
 use catalogue::table::all_rows;
+use line::answer::Answered;
 use line::answer::answer_line;
+use line::fault::Fault;
 use spelling::acknowledgement::put_nak;
+use syntax::cause::Cause;
 use text::cut::find;
 use text::written::put_bytes;
 ghost use mathlib.Core.Bool.{true};
@@ -36,11 +39,12 @@ pub struct Gathered {
     pub finished: bool,
 }
 
-// The port handed back, how many bytes were consumed and how many sent as the reply, and the number of a refusal or 0.
+// The port handed back, how many bytes were consumed and how many sent as the reply, why that is 99, and the number of a refusal or 0.
 pub struct Called {
     pub port: Port,
     pub consumed: usize,
     pub sent: usize,
+    pub fault: Fault,
     pub number: u8,
 }
 
@@ -123,13 +127,16 @@ impl Port {
         rows: &[[i32; 8]; 50],
         values: &mut [i64],
         reply: &mut [u8],
-    ) -> usize
+    ) -> Answered
         requires { ⌜ (sound (now table) ≡ true) × (now rows ≡ numbers) × (valuesSound (roomOf (now table)) (now values) ≡ true) ⌝ }
         requires { ⌜ (64 ≤ length (now reply)) × (self .len ≤ 64) ⌝ }
         ensures { λ r. ⌜ Finishes (controlSpace (roomOf (now (table .entry)))) (now (values .entry)) self (now (reply .entry)) r (now (values .exit)) (now (reply .exit)) ⌝ }
     {
         if self.overrun {
-            return put_nak(reply, 99);
+            return Answered {
+                sent: put_nak(reply, 99),
+                fault: Fault::At(Cause::Overrun, 64),
+            };
         }
         let len = self.len;
         let held = self.held;
@@ -152,19 +159,23 @@ impl Port {
         let gathered = self.gather(given);
         let port = gathered.port;
         if !gathered.finished {
+            let fault = Fault::Nothing;
             return Called {
                 port: port,
                 consumed: gathered.consumed,
                 sent: 0,
+                fault: fault,
                 number: 0,
             };
         }
-        let sent = port.finish(table, rows, values, reply);
+        let answered = port.finish(table, rows, values, reply);
+        let fault = answered.fault;
         let next = Port::fresh();
         Called {
             port: next,
             consumed: gathered.consumed,
-            sent: sent,
+            sent: answered.sent,
+            fault: fault,
             number: 0,
         }
     }
@@ -180,6 +191,7 @@ impl Port {
                 port: self,
                 consumed: 0,
                 sent: 0,
+                fault: Fault::Nothing,
                 number: number,
             };
         }

@@ -1,4 +1,5 @@
 -- The shape of a line: verb, perhaps a space, label between quotes, index part and, in a set line, `=` and the value text.
+pub mod Causes
 pub mod Laws
 pub mod Quotes
 pub mod Reading
@@ -9,6 +10,7 @@ use lib.Dec.{eqb, ltb}
 use lib.ListN.{length, getD, take}
 use Rattle.text.specs.Cut.{firstFrom}
 use Rattle.room.specs.Label.{same}
+use Rattle.syntax.specs.declared.cause.Cause.the-variants.{Overrun, NoVerb, NoOpeningQuote, NoClosingQuote, NoEquals}
 use Rattle.syntax.specs.declared.shape.Shape.{Shape}
 use Rattle.syntax.specs.declared.shape.Shape.the-variants.{Malformed, Get, Set}
 
@@ -40,16 +42,19 @@ unfoldable pub getShape : List ℕ → Shape
 getShape line = Get (opening line) (closing line)
 
 unfoldable pub setShape : List ℕ → Shape
-setShape line = cond (ltb (equals line) (length line)) (Set (opening line) (closing line) (equals line)) Malformed
+setShape line = cond (ltb (equals line) (length line)) (Set (opening line) (closing line) (equals line)) (Malformed NoEquals (length line))
 
--- a quote where it should stand, and another one behind it
+-- a quote where it should stand, and another one behind it; the second one is missed at the line's end
 unfoldable pub quoted : List ℕ → Shape → Shape
 quoted line shape =
-    cond (eqb (getD line (opening line) 0) 0x22) (cond (ltb (closing line) (length line)) shape Malformed) Malformed
+    cond (eqb (getD line (opening line) 0) 0x22)
+    (cond (ltb (closing line) (length line)) shape (Malformed NoClosingQuote (length line)))
+    (Malformed NoOpeningQuote (opening line))
 
--- at most 64 bytes; the verb in capitals, SA or GA; at most one space; a quote, and a second one; for SA the `=` after it. Any other line is malformed
+-- at most 64 bytes; the verb in capitals, SA or GA; at most one space; a quote, and a second one; for SA the `=` after it. Any other line is malformed: the first of these
+-- that it lacks is the cause, and the place is the byte of the line where that shows
 unfoldable pub shape : List ℕ → Shape
 shape line =
-    cond (ltb lineLimit (length line)) Malformed
+    cond (ltb lineLimit (length line)) (Malformed Overrun lineLimit)
     (cond (isSet line) (quoted line (setShape line))
-    (cond (isGet line) (quoted line (getShape line)) Malformed))
+    (cond (isGet line) (quoted line (getShape line)) (Malformed NoVerb 0)))

@@ -1,4 +1,5 @@
 // The parts of a line: its shape, its index part, its value text.
+pub mod cause;
 pub mod index_part;
 pub mod shape;
 pub mod value_text;

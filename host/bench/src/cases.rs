@@ -15,7 +15,8 @@ pub struct Case {
     port: [u8; 66],
     reply: [u8; 64],
     list: Vec<u8>,
-    told: [u64; 2],
+    fed: [u64; 4],
+    listed: [u64; 2],
     part: [u64; 3],
     /// What the call must tell: its numbers, and how the reply begins.
     expected: Expected,
@@ -89,7 +90,8 @@ fn of_room(room: Room) -> Vec<Case> {
         port: [0; 66],
         reply: [0; 64],
         list: vec![0; room.values.len() * 51],
-        told: [0; 2],
+        fed: [0; 4],
+        listed: [0; 2],
         part: [0; 3],
         expected,
     })
@@ -110,7 +112,7 @@ impl Case {
                     &mut self.port,
                     given,
                     &mut self.reply,
-                    &mut self.told,
+                    &mut self.fed,
                 )
             }
             Work::Restore { selection } => (calls.restore)(
@@ -119,7 +121,7 @@ impl Case {
                 selection,
                 &room.wanted,
                 &mut self.list,
-                &mut self.told,
+                &mut self.listed,
             ),
             Work::Log { line } => {
                 (calls.log)(&room.table, line, &mut self.part);
@@ -136,10 +138,10 @@ impl Case {
         let right = match self.expected {
             Expected::Nothing => true,
             Expected::Reply(begin) => {
-                let reply = &self.reply[..self.told[1] as usize];
+                let reply = &self.reply[..self.fed[1] as usize];
                 reply.starts_with(begin) && reply.is_empty() == begin.is_empty()
             }
-            Expected::Lines(lines) => self.told[1] == lines,
+            Expected::Lines(lines) => self.listed[1] == lines,
             Expected::InTable(found) => self.part[0] == found,
         };
         assert!(right, "{}: another answer than expected", self.name);

@@ -2,7 +2,7 @@
 
 #![forbid(unsafe_code)]
 
-type Port = fn(&[u8], &mut [i64], &mut [u8; 66], &[u8], &mut [u8], &mut [u64; 2]) -> u8;
+type Port = fn(&[u8], &mut [i64], &mut [u8; 66], &[u8], &mut [u8], &mut [u64; 4]) -> u8;
 type Restore = fn(&[u8], &[i64], &[u8], &[i64], &mut [u8], &mut [u64; 2]) -> u8;
 
 /// The four calls of a core, over slices and blocks of fixed size.

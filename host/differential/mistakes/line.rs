@@ -35,8 +35,8 @@ pub const MISTAKES: &[Mistake] = &[
         "last_equals",
         "the last = divides",
         "line.rs",
-        "split_around(rest, b'=')?",
-        "rest.iter().rposition(|&b| b == b'=').map(|p| (&rest[..p], &rest[p + 1..]))?",
+        "split_around(rest, b'=');",
+        "rest.iter().rposition(|&b| b == b'=').map(|p| (&rest[..p], &rest[p + 1..]));",
     ),
     (
         "missing_index",

@@ -1,5 +1,6 @@
 //! The planted mistakes.
 
+mod fault;
 mod line;
 mod log;
 mod port;
@@ -18,10 +19,11 @@ pub type Mistake = (
 );
 
 /// All of them, part by part.
-pub const MISTAKES: [&[Mistake]; 6] = [
+pub const MISTAKES: [&[Mistake]; 7] = [
     values::MISTAKES,
     table::MISTAKES,
     line::MISTAKES,
+    fault::MISTAKES,
     port::MISTAKES,
     restore::MISTAKES,
     log::MISTAKES,

@@ -56,8 +56,8 @@ pub const MISTAKES: &[Mistake] = &[
         "count_lines",
         "lines told are one too few from ten on",
         "restore.rs",
-        "Ok((writer.length, lines))",
-        "Ok((writer.length, if lines > 9 { lines - 1 } else { lines }))",
+        "Ok([writer.length, lines])",
+        "Ok([writer.length, if lines > 9 { lines - 1 } else { lines }])",
     ),
     (
         "list_toggle",

@@ -40,6 +40,7 @@ fn main() {
         ("restore", "0 1 2 5 6 7 8"),
         ("log", "0 1"),
         ("reply", "ACK GA 01 02 03 99"),
+        ("cause", "0 1 2 3 4 5"),
     ] {
         let row = text.lines().find(|line| line.trim().starts_with(call));
         for answer in answers.split(' ') {

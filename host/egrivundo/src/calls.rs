@@ -31,7 +31,7 @@ extern "C" {
         given_count: usize,
         reply: *mut u8,
         reply_count: usize,
-        told: *mut [u64; 2],
+        told: *mut [u64; 4],
     ) -> u8;
 
     fn egrivundo_restore(
@@ -78,17 +78,20 @@ pub fn log(table: &[u8], line: &[u8], told: &mut [u64; 3]) {
     unsafe { egrivundo_log(table.as_ptr(), table.len(), line.as_ptr(), line.len(), told) }
 }
 
-/// One call on a port. `told` becomes the bytes consumed and the reply's
-/// length. Any overrun byte but 0 is read as overrun; it is stored as 0 or 1
+/// One call on a port. `told` becomes the bytes consumed, the reply's length
+/// and, where the reply is 99, the number of a [`Cause`] and its place, else 0
+/// and 0. Any overrun byte but 0 is read as overrun; it is stored as 0 or 1
 /// where bytes are given, and a call given none leaves all 66 bytes.
+///
+/// [`Cause`]: crate::Cause
 ///
 /// ```
 /// let mut port = [0; 66];
 /// let mut reply = [0; 64];
-/// let mut told = [0; 2];
+/// let mut told = [0; 4];
 /// let given = b"GA\"T\">1\r";
 /// let answer = egrivundo::calls::port(&[], &mut [], &mut port, given, &mut reply, &mut told);
-/// assert_eq!((answer, told), (0, [8, 4]));
+/// assert_eq!((answer, told), (0, [8, 4, 0, 0]));
 /// assert_eq!(&reply[..4], b"\x1501\r");
 /// ```
 #[inline]
@@ -98,7 +101,7 @@ pub fn port(
     port: &mut [u8; 66],
     given: &[u8],
     reply: &mut [u8],
-    told: &mut [u64; 2],
+    told: &mut [u64; 4],
 ) -> u8 {
     unsafe {
         egrivundo_port(

@@ -32,6 +32,7 @@
 #![warn(missing_docs)]
 
 pub mod calls;
+mod fault;
 mod kind;
 mod list;
 mod port;
@@ -39,6 +40,7 @@ mod refusal;
 mod reply;
 mod room;
 
+pub use fault::{Cause, Fault};
 pub use kind::Type;
 pub use list::List;
 pub use port::Port;

@@ -1,12 +1,13 @@
 use std::fmt;
 
-use crate::Port;
+use crate::{Fault, Port};
 
 /// The reply of one port call; empty where no line was finished.
 #[derive(Clone)]
 pub struct Reply {
     pub(crate) buffer: [u8; Port::REPLY],
     pub(crate) length: usize,
+    pub(crate) fault: Option<Fault>,
 }
 
 impl Reply {
@@ -41,16 +42,34 @@ impl Reply {
             _ => None,
         }
     }
+
+    /// Why the line was answered with 99.
+    pub fn fault(&self) -> Option<Fault> {
+        self.fault
+    }
 }
 
-/// Shown in words: `ACK`, `NAK 03`, or the text without its end.
+/// Shown in words: `ACK`, `NAK 03`, a NAK 99 with its cause, or the text
+/// without its end.
+///
+/// ```
+/// # use egrivundo::{Room, Type};
+/// let mut room = Room::new(&[(Type::SmartBass, "S")])?;
+/// let reply = room.line(b"SA\"S\">1")?;
+/// assert_eq!(reply.to_string(), "NAK 99, no `=`: the line ends at byte 7");
+/// # Ok::<(), egrivundo::Refusal>(())
+/// ```
 impl fmt::Display for Reply {
     fn fmt(&self, out: &mut fmt::Formatter) -> fmt::Result {
         if self.is_ack() {
             return out.write_str("ACK");
         }
         if let Some(code) = self.nak() {
-            return write!(out, "NAK {code}");
+            write!(out, "NAK {code}")?;
+            return match self.fault {
+                Some(fault) => write!(out, ", {fault}"),
+                None => Ok(()),
+            };
         }
         let text = self.bytes();
         write!(
@@ -69,7 +88,7 @@ impl fmt::Debug for Reply {
 
 impl PartialEq for Reply {
     fn eq(&self, other: &Reply) -> bool {
-        self.bytes() == other.bytes()
+        self.bytes() == other.bytes() && self.fault == other.fault
     }
 }
 

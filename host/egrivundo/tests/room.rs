@@ -1,6 +1,6 @@
 //! The safe interface over the archive.
 
-use egrivundo::{Port, Refusal, Room, Type};
+use egrivundo::{Cause, Fault, Port, Refusal, Room, Type};
 
 fn room() -> Room {
     Room::new(&[
@@ -104,6 +104,66 @@ fn overrun_ports_are_equal() {
         assert_eq!(port, Port::from_bytes(bytes).unwrap());
     }
     assert_ne!(port, Port::new());
-    assert_eq!(room.feed(&mut port, b"\r").unwrap().reply.nak(), Some("99"));
+    let reply = room.feed(&mut port, b"\r").unwrap().reply;
+    assert_eq!(reply.nak(), Some("99"));
+    assert_eq!(
+        reply.to_string(),
+        "NAK 99, overrun: byte 64 is one too many"
+    );
     assert!(port.is_fresh());
+}
+
+#[test]
+fn faults() {
+    let mut room = room();
+    for (line, cause, place, words) in [
+        (
+            &b"S"[..],
+            Cause::NoVerb,
+            0,
+            "no verb: no SA or GA at byte 0",
+        ),
+        (
+            b"SA",
+            Cause::NoOpeningQuote,
+            2,
+            "no opening quote at byte 2",
+        ),
+        (
+            b"SA  \"Tone\">1=1",
+            Cause::NoOpeningQuote,
+            3,
+            "no opening quote at byte 3",
+        ),
+        (
+            b"GA\"Tone",
+            Cause::NoClosingQuote,
+            7,
+            "no closing quote: the line ends at byte 7",
+        ),
+        (
+            b"SA\"Tone\">1",
+            Cause::NoEquals,
+            10,
+            "no `=`: the line ends at byte 10",
+        ),
+    ] {
+        let reply = room.line(line).unwrap();
+        assert_eq!(reply.nak(), Some("99"));
+        assert_eq!(reply.fault(), Some(Fault { cause, place }));
+        assert_eq!(reply.fault().unwrap().to_string(), words);
+    }
+    for line in [
+        &b"SA\"Tone\">1=1"[..],
+        b"SA\"Tone\">1=x",
+        b"GA\"Q\">1",
+        b"GA\"Tone\"",
+    ] {
+        assert_eq!(room.line(line).unwrap().fault(), None);
+    }
+    // A call that finishes no line tells no fault.
+    let mut port = Port::new();
+    for piece in [&[b'x'; 64][..], b"x", b""] {
+        assert_eq!(room.feed(&mut port, piece).unwrap().reply.fault(), None);
+    }
 }

@@ -36,14 +36,15 @@ pub fn log(table: &[u8], line: &[u8], told: &mut [u64; 3]) {
     *told = [part.in_table as u64, part.start as u64, part.length as u64];
 }
 
-/// One port call. `told` becomes bytes consumed and reply length.
+/// One port call. `told` becomes bytes consumed, reply length, and why a line
+/// was answered with 99: cause (0 none) and place.
 pub fn port(
     table: &[u8],
     values: &mut [i64],
     port: &mut [u8; PORT_BYTES],
     given: &[u8],
     reply: &mut [u8],
-    told: &mut [u64; 2],
+    told: &mut [u64; 4],
 ) -> u8 {
     tell(told, port::call(table, values, port, given, reply))
 }
@@ -60,14 +61,17 @@ pub fn restore(
     tell(told, restore::call(table, present, selection, wanted, list))
 }
 
-fn tell(told: &mut [u64; 2], answer: Result<(usize, usize), Refusal>) -> u8 {
+fn tell<const COUNT: usize>(
+    told: &mut [u64; COUNT],
+    answer: Result<[usize; COUNT], Refusal>,
+) -> u8 {
     match answer {
-        Ok((first, second)) => {
-            *told = [first as u64, second as u64];
+        Ok(numbers) => {
+            *told = numbers.map(|number| number as u64);
             0
         }
         Err(refusal) => {
-            *told = [0, 0];
+            *told = [0; COUNT];
             refusal
         }
     }

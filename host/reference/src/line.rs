@@ -10,6 +10,38 @@ const LABEL: Code = *b"01";
 const INDEX: Code = *b"02";
 const VALUE: Code = *b"03";
 
+/// What a line lacks that is answered with 99, in the order in which the paper
+/// looks for it.
+#[derive(Clone, Copy)]
+pub enum Cause {
+    Overrun = 1,
+    NoVerb = 2,
+    NoOpeningQuote = 3,
+    NoClosingQuote = 4,
+    NoEquals = 5,
+}
+
+/// A cause, and the byte of the line where it shows.
+pub type Fault = (Cause, usize);
+
+/// Why a line gets a NAK.
+enum Wrong {
+    Form(Fault),
+    Code(Code),
+}
+
+impl From<Fault> for Wrong {
+    fn from(fault: Fault) -> Wrong {
+        Wrong::Form(fault)
+    }
+}
+
+impl From<Code> for Wrong {
+    fn from(code: Code) -> Wrong {
+        Wrong::Code(code)
+    }
+}
+
 struct Parts<'a> {
     label: &'a [u8],
     index: &'a [u8],
@@ -17,21 +49,28 @@ struct Parts<'a> {
     text: Option<&'a [u8]>,
 }
 
-/// Serves a line of at most 64 bytes and tells the reply's length.
-pub fn answer(table: Table, values: &mut [i64], line: &[u8], reply: &mut [u8]) -> usize {
+/// Serves a line of at most 64 bytes; tells the reply's length, and what is
+/// wrong with the form.
+pub fn answer(
+    table: Table,
+    values: &mut [i64],
+    line: &[u8],
+    reply: &mut [u8],
+) -> (usize, Option<Fault>) {
     match serve(table, values, line, reply) {
-        Ok(length) => length,
-        Err(code) => nak(reply, code),
+        Ok(length) => (length, None),
+        Err(Wrong::Code(code)) => (nak(reply, code), None),
+        Err(Wrong::Form(fault)) => (nak(reply, FORM), Some(fault)),
     }
 }
 
-/// The reply to a line over 64 bytes.
-pub fn overrun(reply: &mut [u8]) -> usize {
-    nak(reply, FORM)
+/// The reply to a line over 64 bytes: the first byte too many shows it.
+pub fn overrun(reply: &mut [u8]) -> (usize, Option<Fault>) {
+    (nak(reply, FORM), Some((Cause::Overrun, 64)))
 }
 
-fn serve(table: Table, values: &mut [i64], line: &[u8], reply: &mut [u8]) -> Result<usize, Code> {
-    let parts = parts(line).ok_or(FORM)?;
+fn serve(table: Table, values: &mut [i64], line: &[u8], reply: &mut [u8]) -> Result<usize, Wrong> {
+    let parts = parts(line)?;
     let module = table.bearer(parts.label).ok_or(LABEL)?;
     let index = read_index(parts.index).ok_or(INDEX)?;
     let mut rows = module.rows.iter();
@@ -45,7 +84,7 @@ fn serve(table: Table, values: &mut [i64], line: &[u8], reply: &mut [u8]) -> Res
     match parts.text {
         Some(text) => {
             if !row.settable {
-                return Err(VALUE);
+                return Err(VALUE.into());
             }
             *value = read_value(row, text, *value).ok_or(VALUE)?;
             writer.put(b"\x06\r");
@@ -55,26 +94,32 @@ fn serve(table: Table, values: &mut [i64], line: &[u8], reply: &mut [u8]) -> Res
     Ok(writer.length)
 }
 
-/// Takes a line apart, or tells that it has not the form.
-fn parts(line: &[u8]) -> Option<Parts<'_>> {
-    let (verb, rest) = line.split_at_checked(2)?;
+/// Takes a line apart, or tells the first part that it lacks, and where. What
+/// is sought up to the end is missed there.
+fn parts(line: &[u8]) -> Result<Parts<'_>, Fault> {
+    let no_verb = (Cause::NoVerb, 0);
+    let (verb, rest) = line.split_at_checked(2).ok_or(no_verb)?;
     let set = match verb {
         b"SA" => true,
         b"GA" => false,
-        _ => return None,
+        _ => return Err(no_verb),
     };
     let rest = rest.strip_prefix(b" ").unwrap_or(rest);
-    let rest = rest.strip_prefix(b"\"")?;
-    let (label, rest) = split_around(rest, b'"')?;
+    let passed = line.len() - rest.len();
+    let rest = rest.strip_prefix(b"\"");
+    let rest = rest.ok_or((Cause::NoOpeningQuote, passed))?;
+    let quotes = split_around(rest, b'"');
+    let (label, rest) = quotes.ok_or((Cause::NoClosingQuote, line.len()))?;
     if set {
-        let (index, text) = split_around(rest, b'=')?;
-        Some(Parts {
+        let halves = split_around(rest, b'=');
+        let (index, text) = halves.ok_or((Cause::NoEquals, line.len()))?;
+        Ok(Parts {
             label,
             index,
             text: Some(text),
         })
     } else {
-        Some(Parts {
+        Ok(Parts {
             label,
             index: rest,
             text: None,

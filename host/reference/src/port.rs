@@ -7,14 +7,14 @@ use super::{line, Refusal, PORT_BYTES};
 const MOST: usize = 64;
 const REPLY: usize = 64;
 
-/// One call on a port: bytes consumed and reply length.
+/// One call on a port: bytes consumed, reply length, cause and place.
 pub fn call(
     table: &[u8],
     values: &mut [i64],
     port: &mut [u8; PORT_BYTES],
     given: &[u8],
     reply: &mut [u8],
-) -> Result<(usize, usize), Refusal> {
+) -> Result<[usize; 4], Refusal> {
     let table = Table::new(table).ok_or(1u8)?;
     if !table.takes(values) {
         return Err(2);
@@ -27,16 +27,16 @@ pub fn call(
     }
     // Zero bytes given change nothing, whatever stands in the port.
     if given.is_empty() {
-        return Ok((0, 0));
+        return Ok([0; 4]);
     }
     match given.iter().position(|&byte| byte == b'\r') {
         None => {
             collect(port, given);
-            Ok((given.len(), 0))
+            Ok([given.len(), 0, 0, 0])
         }
         Some(end) => {
             collect(port, &given[..end]);
-            let length = if port[1] != 0 {
+            let (length, fault) = if port[1] != 0 {
                 line::overrun(reply)
             } else {
                 let line = &port[2..2 + usize::from(port[0])];
@@ -44,7 +44,8 @@ pub fn call(
             };
             port[0] = 0;
             port[1] = 0;
-            Ok((end + 1, length))
+            let [cause, place] = fault.map_or([0; 2], |(cause, place)| [cause as usize, place]);
+            Ok([end + 1, length, cause, place])
         }
     }
 }

@@ -12,7 +12,7 @@ pub fn call(
     selection: &[u8],
     wanted: &[i64],
     list: &mut [u8],
-) -> Result<(usize, usize), Refusal> {
+) -> Result<[usize; 2], Refusal> {
     let table = Table::new(table).ok_or(1u8)?;
     if !table.takes(present) {
         return Err(2);
@@ -45,7 +45,7 @@ pub fn call(
         length: 0,
     };
     wish.write(&mut writer);
-    Ok((writer.length, lines))
+    Ok([writer.length, lines])
 }
 
 #[derive(Clone, Copy)]

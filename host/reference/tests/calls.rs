@@ -56,12 +56,12 @@ fn port_refusals() {
         let mut values = values.to_vec();
         let kept = values.clone();
         let mut reply = vec![7; reply];
-        let mut told = [9; 2];
+        let mut told = [9; 4];
         let answer = reference::port(table, &mut values, port, b"", &mut reply, &mut told);
         assert_eq!(*port, before);
         assert_eq!(values, kept);
         assert!(reply.iter().all(|&byte| byte == 7));
-        assert_eq!(told, [0, 0]);
+        assert_eq!(told, [0; 4]);
         answer
     };
     let room = Room::a();

@@ -10,6 +10,9 @@ egrivundo-port-spec =
     (tie.spec
     (λ c κs. search (calling, needs))  -- port-of-requires
     (λ c κs. search (calling, needs))  -- take-requires
+    (λ c κs. search (calling, needs))  -- fault-numbers-requires
+    (λ c. search (calling, needs))  -- array-read-t21
+    (λ c. search (calling, needs))  -- array-read-t24
     (λ c. search (calling, needs))  -- same-length
     (λ c. search (calling, needs))  -- same-length-2
     (λ c. search (calling, needs))  -- returns

@@ -6,6 +6,8 @@ use lib.IntN.{ℤ}
 use lib.ListN.{length, getD, replicate}
 use Rattle.syntax.specs.Shape.{lineLimit}
 use Rattle.values.specs.Room.{Room}
+use Rattle.line.specs.Fault.Laws.{none-numbers}
+use Rattle.line.specs.declared.fault.Fault.the-variants.{Nothing}
 use Rattle.serial_port.specs.Port.{fresh, view}
 use Rattle.serial_port.specs.Port.Seen.{seen-fresh}
 use Rattle.serial_port.specs.Call.{step}
@@ -26,14 +28,14 @@ claim-said port h = h
 module _ (r : Room) (vs : List ℤ) (port reply : List ℕ) where
   -- a refusal counts zero, and changes neither the values nor the reply buffer
   pub answer-refused : (given : List ℕ) (n : ℕ) → callNumber r vs (length reply) (portOf port .len) ≡ suc n
-      → portAnswer r vs port given reply ≡ portTells (suc n) (0 ∷ 0 ∷ []) vs reply
+      → portAnswer r vs port given reply ≡ portTells (suc n) (0 ∷ 0 ∷ 0 ∷ 0 ∷ []) vs reply
   unfolding portAnswer counted
-  answer-refused given n e = rw (refused-told r vs (portOf port) given reply n e) refl
+  answer-refused given n e = rw (refused-told r vs (portOf port) given reply n e, ← none-numbers Nothing refl) refl
 
   -- nor does a call that is given no bytes
-  pub answer-nothing : callNumber r vs (length reply) (portOf port .len) ≡ 0 → portAnswer r vs port [] reply ≡ portTells 0 (0 ∷ 0 ∷ []) vs reply
+  pub answer-nothing : callNumber r vs (length reply) (portOf port .len) ≡ 0 → portAnswer r vs port [] reply ≡ portTells 0 (0 ∷ 0 ∷ 0 ∷ 0 ∷ []) vs reply
   unfolding portAnswer counted
-  answer-nothing e = rw (nothing-told r vs (portOf port) reply e) refl
+  answer-nothing e = rw (nothing-told r vs (portOf port) reply e, ← none-numbers Nothing refl) refl
 
 -- ---- the two parts of the promise
 

@@ -15,6 +15,7 @@ use Rattle.values.specs.Values.Laws.{set-sound}
 use Rattle.values.specs.declared.parameter.Parameter.{Parameter}
 use Rattle.values.specs.declared.parameter.ParameterFound.the-variants.{At}
 use Rattle.text.specs.Cut.{part}
+use Rattle.syntax.specs.declared.cause.Cause.{Cause}
 use Rattle.line.specs.Meaning.{meaning}
 use Rattle.line.specs.Meaning.Laws.{Puts, Gets, names-place, names-label, put-told, get-told}
 use Rattle.spelling.specs.Reply.{getReply}
@@ -22,27 +23,34 @@ use Rattle.spelling.specs.Acknowledgement.{ack, nak}
 use Rattle.text.specs.Written.{Wrote}
 use Rattle.line.specs.Answer.{Answer, Answers, answers, act, answer}
 use Rattle.line.specs.declared.meaning.Meaning.{Meaning}
-use Rattle.line.specs.declared.meaning.Meaning.the-variants.{Code, Get, Put}
+use Rattle.line.specs.declared.meaning.Meaning.the-variants.{Malformed, Code, Get, Put}
+use Rattle.line.specs.declared.fault.Fault.the-variants as fault
+use Rattle.line.specs.declared.answer.Answered.{Answered}
 
--- ---- the two parts of the promise
+-- ---- the three parts of the promise
 
-module _ {r : Room} {vs : List ℤ} {line buffer : List ℕ} {sent : ℕ} {vs′ : List ℤ} {buffer′ : List ℕ} where
-  pub reply-by : Answers r vs line buffer sent vs′ buffer′ → Wrote buffer 0 (answer r vs line .reply) sent buffer′
-  reply-by (answers reply values) = reply
+module _ {r : Room} {vs : List ℤ} {line buffer : List ℕ} {a : Answered} {vs′ : List ℤ} {buffer′ : List ℕ} where
+  pub reply-by : Answers r vs line buffer a vs′ buffer′ → Wrote buffer 0 (answer r vs line .reply) (a .sent) buffer′
+  reply-by (answers reply fault values) = reply
 
-  pub values-by : Answers r vs line buffer sent vs′ buffer′ → vs′ ≡ answer r vs line .values
-  values-by (answers reply values) = values
+  pub fault-by : Answers r vs line buffer a vs′ buffer′ → a .fault ≡ answer r vs line .fault
+  fault-by (answers reply fault values) = fault
+
+  pub values-by : Answers r vs line buffer a vs′ buffer′ → vs′ ≡ answer r vs line .values
+  values-by (answers reply fault values) = values
 
 -- what a line may do
 pub data Effect (r : Room) (vs : List ℤ) (line : List ℕ) : Type 0 where
-  -- answered with a code, and the values are as before
-  refused : (n : ℕ) → meaning r vs line ≡ Code n → answer r vs line ≡ record { reply = nak n; values = vs } → Effect r vs line
+  -- answered with 99 for a cause that shows at a place, and the values are as before
+  malformed : (k : Cause) (n : ℕ) → meaning r vs line ≡ Malformed k n → answer r vs line ≡ record { reply = nak 99; values = vs; fault = fault.At k n } → Effect r vs line
+  -- answered with another code, and the values are as before
+  refused : (n : ℕ) → meaning r vs line ≡ Code n → answer r vs line ≡ record { reply = nak n; values = vs; fault = fault.Nothing } → Effect r vs line
   -- answered with the value of the parameter named, and the values are as before
   told : (p : Parameter) → meaning r vs line ≡ Get p → Gets (r .table) line p → parameterAt (parameters (r .table)) (place p) ≡ At p
-      → answer r vs line ≡ record { reply = getReply (r .table) p (getD vs (place p) (pos 0)); values = vs } → Effect r vs line
+      → answer r vs line ≡ record { reply = getReply (r .table) p (getD vs (place p) (pos 0)); values = vs; fault = fault.Nothing } → Effect r vs line
   -- acknowledged, and the value of the parameter named is the one that the text says, which the room permits
   put : (p : Parameter) (x : ℤ) → meaning r vs line ≡ Put p x → Puts r vs line p x → parameterAt (parameters (r .table)) (place p) ≡ At p
-      → answer r vs line ≡ record { reply = ack; values = set vs (place p) x } → Effect r vs line
+      → answer r vs line ≡ record { reply = ack; values = set vs (place p) x; fault = fault.Nothing } → Effect r vs line
 
 pub puts-place : (r : Room) (vs : List ℤ) (line : List ℕ) (p : Parameter) (x : ℤ) → sound (r .table) ≡ true → Puts r vs line p x
     → parameterAt (parameters (r .table)) (place p) ≡ At p
@@ -73,6 +81,7 @@ unfolding act
 effect r vs line s = go (meaning r vs line) refl
   where
     go : (m : Meaning) → meaning r vs line ≡ m → Effect r vs line
+    go (Malformed k n) e = malformed k n e (answered r vs line (Malformed k n) e)
     go (Code n) e = refused n e (answered r vs line (Code n) e)
     go (Get p) e = let g = get-told r vs line p e in told p e g (gets-place (r .table) line p s g) (answered r vs line (Get p) e)
     go (Put p x) e = let g = put-told r vs line p x e in put p x e g (puts-place r vs line p x s g) (answered r vs line (Put p x) e)
@@ -86,6 +95,7 @@ values-stay-sound r vs line s h = go (effect r vs line s)
     after a e v = ap (λ b. valuesSound r (b .values)) e ∙ v
 
     go : Effect r vs line → valuesSound r (answer r vs line .values) ≡ true
-    go (refused n m e) = after (record { reply = nak n; values = vs }) e h
-    go (told p m g l e) = after (record { reply = getReply (r .table) p (getD vs (place p) (pos 0)); values = vs }) e h
-    go (put p x m g l e) = after (record { reply = ack; values = set vs (place p) x }) e (set-sound r vs (place p) p x l (g .valued .permits) h)
+    go (malformed k n m e) = after (record { reply = nak 99; values = vs; fault = fault.At k n }) e h
+    go (refused n m e) = after (record { reply = nak n; values = vs; fault = fault.Nothing }) e h
+    go (told p m g l e) = after (record { reply = getReply (r .table) p (getD vs (place p) (pos 0)); values = vs; fault = fault.Nothing }) e h
+    go (put p x m g l e) = after (record { reply = ack; values = set vs (place p) x; fault = fault.Nothing }) e (set-sound r vs (place p) p x l (g .valued .permits) h)

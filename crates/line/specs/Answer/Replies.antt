@@ -25,7 +25,7 @@ use Rattle.spelling.specs.Acknowledgement.Laws.{ack-length, nak-length}
 use Rattle.line.specs.Told.{Told}
 use Rattle.line.specs.Told.Laws.{reply-told}
 use Rattle.line.specs.Answer.{act, answer}
-use Rattle.line.specs.Answer.Laws.{Effect, refused, told, put, gets-place, answered, effect}
+use Rattle.line.specs.Answer.Laws.{Effect, malformed, refused, told, put, gets-place, answered, effect}
 use Rattle.line.specs.declared.meaning.Meaning.the-variants.{Get}
 
 pub gets-label : (t line : List ℕ) (p : Parameter) → sound t ≡ true → Gets t line p → bearer t (label t (p .owner)) ≡ Only (p .owner)
@@ -54,6 +54,7 @@ module _ (r : Room) (vs : List ℤ) (line : List ℕ) (s : sound (r .table) ≡ 
   reply-limit = go (effect r vs line s)
     where
       go : Effect r vs line → length (answer r vs line .reply) ≤ 51
+      go (malformed k n m e) = rw e (omega (arith, nak-length 99))
       go (refused n m e) = rw e (omega (arith, nak-length n))
       go (told p m g l e) = rw e (gets-told p g .short)
       go (put p x m g l e) = rw e (omega (arith, ack-length))

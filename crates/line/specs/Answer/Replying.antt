@@ -25,6 +25,7 @@ use Rattle.values.specs.declared.parameter.Parameter.{Parameter}
 use Rattle.values.specs.declared.parameter.ParameterFound.{ParameterFound}
 use Rattle.values.specs.declared.parameter.ParameterFound.the-variants.{At, Nothing}
 use Rattle.syntax.specs.Shape.{shape}
+use Rattle.syntax.specs.declared.cause.Cause.{Cause}
 use Rattle.syntax.specs.declared.shape.Shape.{Shape}
 use Rattle.syntax.specs.declared.shape.Shape.the-variants as shape
 use Rattle.syntax.specs.declared.index_part.IndexPart.{IndexPart}
@@ -39,7 +40,8 @@ use Rattle.line.specs.Meaning.Bearing.{bearer-seated}
 use Rattle.spelling.specs.Reply.{getReply}
 use Rattle.spelling.specs.Acknowledgement.{ack, nak}
 use Rattle.line.specs.declared.meaning.Meaning.{Meaning}
-use Rattle.line.specs.declared.meaning.Meaning.the-variants.{Code, Get, Put}
+use Rattle.line.specs.declared.meaning.Meaning.the-variants.{Malformed, Code, Get, Put}
+use Rattle.line.specs.declared.fault.Fault.the-variants as fault
 
 -- ---- telling and setting one parameter
 
@@ -69,15 +71,16 @@ pub ruleset putting = (set-value)
 
 -- ---- a line, by its meaning
 
--- codes have two digits
+-- codes other than 99 are at most 3
 abbrev Small : Meaning → Type 0
-Small (Code n) = n < 100
+Small (Malformed k n) = Unit {0}
+Small (Code n) = n < 4
 Small (Get p) = Unit {0}
 Small (Put p x) = Unit {0}
 
 abbrev SmallTarget : Target → Type 0
 SmallTarget (target p) = Unit {0}
-SmallTarget (code n) = n < 100
+SmallTarget (code n) = n < 4
 
 in-module : (f : ParameterFound) → SmallTarget (inModule f)
 unfolding inModule
@@ -106,9 +109,13 @@ small-set r vs text (code n) h = h
 
 small-shape : (r : Room) (vs : List ℤ) (line : List ℕ) (b : Bearer) (s : Shape) → Small (ofShape r vs line b s)
 unfolding ofShape
-small-shape r vs line b shape.Malformed = lit< tt
+small-shape r vs line b (shape.Malformed k n) = tt
 small-shape r vs line b (shape.Get o c) = small-get _ (in-room b _)
 small-shape r vs line b (shape.Set o c e) = small-set r vs _ _ (in-room b _)
+
+pub code-few : (r : Room) (vs : List ℤ) (line : List ℕ) (n : ℕ) → meaning r vs line ≡ Code n → n < 4
+unfolding meaning
+code-few r vs line n e = subst Small e (small-shape r vs line (bearerOf (r .table) line (shape line)) (shape line))
 
 module _ (r : Room) (vs : List ℤ) (line : List ℕ) (b : Bearer) (f : Shape) (l : f ≡ shape line) (k : b ≡ bearerOf (r .table) line f) (m : Meaning) (d : m ≡ ofShape r vs line b f) where
   e : m ≡ meaning r vs line
@@ -116,7 +123,7 @@ module _ (r : Room) (vs : List ℤ) (line : List ℕ) (b : Bearer) (f : Shape) (
   e = rw (← l, ← k) d
 
   pub code-below : (n : ℕ) → m ≡ Code n → n < 100
-  code-below n h = subst Small (sym d ∙ h) (small-shape r vs line b f)
+  code-below n h = omega (arith, code-few r vs line n (sym e ∙ h))
 
   gets-tellable : (p : Parameter) → m ≡ Get p → sound (r .table) ≡ true → valuesSound r vs ≡ true → Tellable (r .table) vs p
   unfolding act
@@ -133,26 +140,35 @@ module _ (r : Room) (vs : List ℤ) (line : List ℕ) (b : Bearer) (f : Shape) (
   put-within p x h s v = rw (place-is p) at (value-inside r vs (place p) p v (puts-place r vs line p x s (put-told r vs line p x (sym e ∙ h))))
 
   module _ (buffer : List ℕ) (sent : ℕ) (buffer′ : List ℕ) where
-    pub answers-code : (n : ℕ) → m ≡ Code n → Wrote buffer 0 (nak n) sent buffer′ → Answers r vs line buffer sent vs buffer′
+    pub answers-malformed : (k : Cause) (n : ℕ) → m ≡ Malformed k n → Wrote buffer 0 (nak 99) sent buffer′
+        → Answers r vs line buffer (record { sent = sent; fault = fault.At k n }) vs buffer′
+    unfolding act
+    answers-malformed k n h w =
+        let a = answered r vs line (Malformed k n) (sym e ∙ h) in
+        answers (rw a w) (sym (ap (λ b. b .fault) a)) (sym (ap (λ b. b .values) a))
+
+    pub answers-code : (n : ℕ) → m ≡ Code n → Wrote buffer 0 (nak n) sent buffer′ → Answers r vs line buffer (record { sent = sent; fault = fault.Nothing }) vs buffer′
     unfolding act
     answers-code n h w =
         let a = answered r vs line (Code n) (sym e ∙ h) in
-        answers (rw a w) (sym (ap (λ b. b .values) a))
+        answers (rw a w) (sym (ap (λ b. b .fault) a)) (sym (ap (λ b. b .values) a))
 
-    pub answers-get : (p : Parameter) → m ≡ Get p → Wrote buffer 0 (getReply (r .table) p (getD vs (place p) (pos 0))) sent buffer′ → Answers r vs line buffer sent vs buffer′
+    pub answers-get : (p : Parameter) → m ≡ Get p → Wrote buffer 0 (getReply (r .table) p (getD vs (place p) (pos 0))) sent buffer′
+        → Answers r vs line buffer (record { sent = sent; fault = fault.Nothing }) vs buffer′
     unfolding act
     answers-get p h w =
         let a = answered r vs line (Get p) (sym e ∙ h) in
-        answers (rw a w) (sym (ap (λ b. b .values) a))
+        answers (rw a w) (sym (ap (λ b. b .fault) a)) (sym (ap (λ b. b .values) a))
 
-    pub answers-put : (p : Parameter) (x : ℤ) (vs′ : List ℤ) → m ≡ Put p x → Wrote buffer 0 ack sent buffer′ → vs′ ≡ set vs (place p) x → Answers r vs line buffer sent vs′ buffer′
+    pub answers-put : (p : Parameter) (x : ℤ) (vs′ : List ℤ) → m ≡ Put p x → Wrote buffer 0 ack sent buffer′ → vs′ ≡ set vs (place p) x
+        → Answers r vs line buffer (record { sent = sent; fault = fault.Nothing }) vs′ buffer′
     unfolding act
     answers-put p x vs′ h w k =
         let a = answered r vs line (Put p x) (sym e ∙ h) in
-        answers (rw a w) (k ∙ sym (ap (λ b. b .values) a))
+        answers (rw a w) (sym (ap (λ b. b .fault) a)) (k ∙ sym (ap (λ b. b .values) a))
 
 pub get-tellable : (t : List ℕ) (vs : List ℤ) (line : List ℕ) (b : Bearer) (f : Shape) (m : Meaning) (p : Parameter) → f ≡ shape line → b ≡ bearerOf t line f
     → m ≡ ofShape (roomOf t) vs line b f → m ≡ Get p → sound t ≡ true → valuesSound (roomOf t) vs ≡ true → Tellable t vs p
 get-tellable t vs line b f m p l k d h s v = gets-tellable (roomOf t) vs line b f l k m d p h s v
 
-pub ruleset answering = (bearer-seated, code-below, get-tellable, put-within, answers-code, answers-get, answers-put)
+pub ruleset answering = (bearer-seated, code-below, get-tellable, put-within, answers-malformed, answers-code, answers-get, answers-put)

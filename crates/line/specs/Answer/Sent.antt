@@ -11,13 +11,14 @@ use Rattle.values.specs.Room.{Room}
 use Rattle.values.specs.Values.{valuesSound}
 use Rattle.spelling.specs.Acknowledgement.Laws.{ack-length, nak-length}
 use Rattle.line.specs.Answer.{answer}
-use Rattle.line.specs.Answer.Laws.{Effect, refused, told, put, effect}
+use Rattle.line.specs.Answer.Laws.{Effect, malformed, refused, told, put, effect}
 use Rattle.line.specs.Answer.Replies.{get-answer}
 
 pub reply-some : (r : Room) (vs : List ℤ) (line : List ℕ) → sound (r .table) ≡ true → valuesSound r vs ≡ true → 1 ≤ length (answer r vs line .reply)
 reply-some r vs line s v = go (effect r vs line s)
   where
     go : Effect r vs line → 1 ≤ length (answer r vs line .reply)
+    go (malformed k n m e) = rw e (omega (arith, nak-length 99))
     go (refused n m e) = rw e (omega (arith, nak-length n))
     go (told p m g l e) = omega (arith, get-answer r vs line s v p m .ends)
     go (put p x m g l e) = rw e (omega (arith, ack-length))

@@ -26,13 +26,14 @@ use Rattle.syntax.specs.IndexPart.{readIndices}
 use Rattle.line.specs.Meaning.{target, code, inRoom, bearerOf}
 use Rattle.line.specs.Meaning.Laws.{names-told, names-place}
 use Rattle.line.specs.Meaning.Reading.{Holds, Seated, places}
+use Rattle.syntax.specs.declared.cause.Cause.{Cause}
 use Rattle.syntax.specs.declared.shape.Shape.{Shape}
 use Rattle.syntax.specs.declared.shape.Shape.the-variants as shape
 
 module _ (t line : List ℕ) (s : Shape) where
-  pub no-label : s ≡ shape.Malformed → NotOne ≡ bearerOf t line s
+  pub no-label : (k : Cause) (n : ℕ) → s ≡ shape.Malformed k n → NotOne ≡ bearerOf t line s
   unfolding bearerOf
-  no-label h = rw h
+  no-label k n h = rw h
 
   pub get-borne : (o c : ℕ) (b : Bearer) → s ≡ shape.Get o c → b ≡ bearer t (part line (o + 1) c) → b ≡ bearerOf t line s
   unfolding bearerOf
@@ -77,6 +78,6 @@ bearer-seated r line vs b s e sd vd = go s e
         }
 
     go : (s : Shape) → b ≡ bearerOf (r .table) line s → Seated r vs b
-    go shape.Malformed h = none h
+    go (shape.Malformed k n) h = none h
     go (shape.Get o c) h = one (part line (o + 1) c) h
     go (shape.Set o c q) h = one (part line (o + 1) c) h

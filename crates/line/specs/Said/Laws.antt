@@ -23,6 +23,7 @@ use Rattle.line.specs.Said.Texts.{text-back}
 use Rattle.line.specs.Meaning.{meaning}
 use Rattle.line.specs.Meaning.Laws.{puts-back}
 use Rattle.spelling.specs.Acknowledgement.{ack}
+use Rattle.line.specs.declared.fault.Fault.the-variants.{Nothing}
 use Rattle.line.specs.Answer.{act, answer}
 use Rattle.values.specs.Room.{Room, rowIn}
 use Rattle.values.specs.Room.Laws.{row-in-kind, row-in-permits, row-in-settable}
@@ -85,6 +86,6 @@ say-puttable r p v x s h = let n = h .reached in say-said r (place p) p v x s (n
 
 -- it is acknowledged, and sets the value at p's place
 pub said-answer : (r : Room) (vs : List ℤ) (p : Parameter) (x : ℤ) (line : List ℕ) → Said r p x line
-    → answer r vs line ≡ record { reply = ack; values = set vs (place p) x }
+    → answer r vs line ≡ record { reply = ack; values = set vs (place p) x; fault = Nothing }
 unfolding act
 said-answer r vs p x line h = answered r vs line (Put p x) (h .means vs)

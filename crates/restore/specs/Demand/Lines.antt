@@ -19,6 +19,7 @@ use Rattle.values.specs.declared.parameter.Parameter.{Parameter}
 use Rattle.syntax.specs.Shape.{lineLimit}
 use Rattle.spelling.specs.Acknowledgement.{ack}
 use Rattle.line.specs.Answer.{answer}
+use Rattle.line.specs.declared.fault.Fault.the-variants as fault
 use Rattle.spelling.specs.Say.{say}
 use Rattle.values.specs.Values.{equal}
 
@@ -38,7 +39,7 @@ pub record Said (r : Room) (p : Parameter) (x : ℤ) (l : List ℕ) : Type 0 whe
   pub bytes : every isByte l ≡ true
   pub whole : has 0x0D l ≡ false
   pub fits : length l ≤ lineLimit
-  pub answered : (vs : List ℤ) → answer r vs l ≡ record { reply = ack; values = set vs (place p) x }
+  pub answered : (vs : List ℤ) → answer r vs l ≡ record { reply = ack; values = set vs (place p) x; fault = fault.Nothing }
 
 -- each line has an effect as above, and set lines do as `Said` says
 pub record Lines (r : Room) : Type 0 where

@@ -13,6 +13,7 @@ use Rattle.values.specs.Parameters.{place}
 use Rattle.spelling.specs.Acknowledgement.{ack}
 use Rattle.spelling.specs.Say.{say}
 use Rattle.values.specs.Room.{Room}
+use Rattle.line.specs.declared.fault.Fault.the-variants.{Nothing}
 use Rattle.serial_port.specs.Server.{controlSpace}
 use Rattle.serial_port.specs.Server.Laws.{line-served}
 use Rattle.serial_port.specs.Port.{fresh}
@@ -44,4 +45,4 @@ module _ (r : Room) (lines : Lines r) where
       let line = say (r .table) (c .parameter) (c .present) (c .target) in
       rw (listing-first (r .table) c cs)
       (line-acknowledged (controlSpace r) vs after (made cs after) line (listing (r .table) cs) (length cs)
-      (said .fits) (said .whole) (line-served r vs line ack after (said .answered vs)) (play-listing cs after (s .1)))
+      (said .fits) (said .whole) (line-served r vs line ack Nothing after (said .answered vs)) (play-listing cs after (s .1)))

@@ -6,6 +6,8 @@ use Prim.Native.Nat.{ℕ, zero, suc, _≤_}
 use lib.ListN.{length}
 use lib.Seq.{sets}
 use Rattle.syntax.specs.Shape.{lineLimit}
+use Rattle.line.specs.declared.fault.Fault.{Fault}
+use Rattle.line.specs.declared.fault.Fault.the-variants.{Nothing}
 use Rattle.serial_port.specs.Server.{Server}
 use Rattle.serial_port.specs.Port.{view, fresh, gathered, Gathers}
 use Rattle.serial_port.specs.Port.Gathering.{gathered-by, gathered-few}
@@ -15,7 +17,7 @@ use Rattle.serial_port.specs.declared.port.Gathered.{Gathered}
 
 module _ {S : Type 0} (server : Server S) (s : S) (p : Port) (bs buffer : List ℕ) where
   -- a refusal
-  pub returns-refused : (n : ℕ) → (n ≡ 0 → ⊥) → Takes server n s p bs buffer (record { port = p; consumed = 0; sent = 0; number = n }) s buffer
+  pub returns-refused : (n : ℕ) → (n ≡ 0 → ⊥) → Takes server n s p bs buffer (record { port = p; consumed = 0; sent = 0; fault = Nothing; number = n }) s buffer
   unfolding tell tells
   returns-refused zero h = absurd (h refl)
   returns-refused (suc n) h = takes refl refl
@@ -27,13 +29,14 @@ module _ {S : Type 0} (server : Server S) (s : S) (p : Port) (bs buffer : List �
     stepped = rw (gathered-by h) refl
 
     -- no 0D: no reply, and the port with the longer line
-    pub returns-waiting : g .finished ≡ false → Takes server 0 s p bs buffer (record { port = g .port; consumed = g .consumed; sent = 0; number = 0 }) s buffer
+    pub returns-waiting : g .finished ≡ false → Takes server 0 s p bs buffer (record { port = g .port; consumed = g .consumed; sent = 0; fault = Nothing; number = 0 }) s buffer
     unfolding tell tells served gathered waiting
     returns-waiting w = takes (rw (stepped, w) refl) (rw (stepped, w) (refl, gathered-few h))
 
     -- an 0D: the reply to the line is written, and the port is fresh
-    pub returns-finished : (q : Port) (n : ℕ) (s′ : S) (buffer′ : List ℕ) → g .finished ≡ true → n ≡ length (finish server s (view (g .port)) .reply)
+    pub returns-finished : (q : Port) (n : ℕ) (f : Fault) (s′ : S) (buffer′ : List ℕ) → g .finished ≡ true → n ≡ length (finish server s (view (g .port)) .reply)
+        → f ≡ finish server s (view (g .port)) .fault
         → s′ ≡ finish server s (view (g .port)) .state → buffer′ ≡ sets buffer 0 (finish server s (view (g .port)) .reply) → view q ≡ fresh → q .len ≤ lineLimit
-        → Takes server 0 s p bs buffer (record { port = q; consumed = g .consumed; sent = n; number = 0 }) s′ buffer′
+        → Takes server 0 s p bs buffer (record { port = q; consumed = g .consumed; sent = n; fault = f; number = 0 }) s′ buffer′
     unfolding tell tells served gathered replied
-    returns-finished q n s′ buffer′ f l v b e k = takes (rw (stepped, f, l, v, b) refl) (rw (stepped, f) (e, k))
+    returns-finished q n x s′ buffer′ f l y v b e k = takes (rw (stepped, f, l, y, v, b) refl) (rw (stepped, f) (e, k))

@@ -13,6 +13,8 @@ use Rattle.room.specs.Table.{sound}
 use Rattle.values.specs.Room.{Room}
 use Rattle.values.specs.Values.{valuesSound}
 use Rattle.syntax.specs.Shape.{lineLimit}
+use Rattle.line.specs.declared.fault.Fault.the-variants.{Nothing}
+use Rattle.line.specs.declared.answer.Answered.{Answered}
 use Rattle.serial_port.specs.Server.{controlSpace}
 use Rattle.serial_port.specs.Port.{view, fresh, Gathers}
 use Rattle.serial_port.specs.Port.Gathering.{gathered-few}
@@ -28,7 +30,7 @@ use Rattle.serial_port.specs.declared.port.Gathered.{Gathered}
 -- ---- a call with its number
 
 module _ (r : Room) (vs : List ℤ) (p : Port) (bs buffer : List ℕ) (n : ℕ) (e : n ≡ callNumber r vs (length buffer) (p .len)) where
-  pub taken-refused : (n ≡ 0 → ⊥) → Answers r vs p bs buffer (record { port = p; consumed = 0; sent = 0; number = n }) vs buffer
+  pub taken-refused : (n ≡ 0 → ⊥) → Answers r vs p bs buffer (record { port = p; consumed = 0; sent = 0; fault = Nothing; number = n }) vs buffer
   taken-refused h = rw (← e) (returns-refused (controlSpace r) vs p bs buffer n h)
 
 pub ruleset taking = (taken-refused, none-told)
@@ -42,17 +44,17 @@ module _ (r : Room) (vs : List ℤ) (p : Port) (bs buffer : List ℕ) (g : Gathe
   number = accepted r vs (length buffer) (p .len) s v h k
 
   pub served-waiting : not (g .finished) ≡ true
-      → Answers r vs p bs buffer (record { port = g .port; consumed = g .consumed; sent = 0; number = 0 }) vs buffer
+      → Answers r vs p bs buffer (record { port = g .port; consumed = g .consumed; sent = 0; fault = Nothing; number = 0 }) vs buffer
   served-waiting w = rw number (returns-waiting (controlSpace r) vs p bs buffer g c (not-true (g .finished) w))
 
-  pub served-finished : (n : ℕ) (vs′ : List ℤ) (buffer′ : List ℕ) (q : Port) → not (g .finished) ≡ false
-      → Finishes (controlSpace r) vs (g .port) buffer n vs′ buffer′ → view q ≡ fresh → q .len ≡ 0
-      → Answers r vs p bs buffer (record { port = q; consumed = g .consumed; sent = n; number = 0 }) vs′ buffer′
+  pub served-finished : (a : Answered) (vs′ : List ℤ) (buffer′ : List ℕ) (q : Port) → not (g .finished) ≡ false
+      → Finishes (controlSpace r) vs (g .port) buffer a vs′ buffer′ → view q ≡ fresh → q .len ≡ 0
+      → Answers r vs p bs buffer (record { port = q; consumed = g .consumed; sent = a .sent; fault = a .fault; number = 0 }) vs′ buffer′
   unfolding lineLimit
-  served-finished n vs′ buffer′ q w (finishes x v) e z =
+  served-finished a vs′ buffer′ q w (finishes x f v) e z =
       rw number
-      (returns-finished (controlSpace r) vs p bs buffer g c q n vs′ buffer′ (not-false (g .finished) w)
-      (past-by x ∙ zero-add (length (finish (controlSpace r) vs (view (g .port)) .reply))) v (bytes-by x) e (omega arith))
+      (returns-finished (controlSpace r) vs p bs buffer g c q (a .sent) (a .fault) vs′ buffer′ (not-false (g .finished) w)
+      (past-by x ∙ zero-add (length (finish (controlSpace r) vs (view (g .port)) .reply))) f v (bytes-by x) e (omega arith))
 
 pub served-few : (p : Port) (bs : List ℕ) (g : Gathered) → Gathers p bs g → g .port .len ≤ 64
 unfolding lineLimit

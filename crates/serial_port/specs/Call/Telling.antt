@@ -8,6 +8,7 @@ use lib.ListN.{length}
 use Rattle.text.specs.Cut.Found.{has-nothing}
 use Rattle.values.specs.Room.{Room}
 use Rattle.syntax.specs.Shape.{lineLimit}
+use Rattle.line.specs.declared.fault.Fault.the-variants.{Nothing}
 use Rattle.serial_port.specs.Server.{Server, controlSpace}
 use Rattle.serial_port.specs.Port.{view}
 use Rattle.serial_port.specs.Port.Laws.{claim-view}
@@ -29,7 +30,7 @@ module _ {S : Type 0} {server : Server S} {number : ℕ} {s : S} {p : Port} {bs 
     (a : Takes server number s p bs buffer c s′ buffer′) where
   -- a field of what it told, or whatever else is made of that
   pub told-field : {A : Type 0} (f : Told S → A)
-      → f (record { number = c .number; consumed = c .consumed; sent = c .sent; state = s′; buffer = buffer′ })
+      → f (record { number = c .number; consumed = c .consumed; sent = c .sent; fault = c .fault; state = s′; buffer = buffer′ })
       ≡ f (tell number s buffer (step server s (view p) bs))
   unfolding tells
   told-field f = ap f (told-by a)
@@ -40,12 +41,14 @@ module _ {S : Type 0} {server : Server S} {number : ℕ} {s : S} {p : Port} {bs 
   told-as : (n : ℕ) → number ≡ n → tells c s′ buffer′ ≡ tell n s buffer (step server s (view p) bs)
   told-as n e = rw e at (told-by a)
 
-  -- a refused one counts zero
+  -- a refused one counts zero, and tells no fault
   module _ (r : c .number ≡ 0 → ⊥) where
-    refused : (n : ℕ) → number ≡ n → (c .consumed ≡ 0) × (c .sent ≡ 0)
+    refused : (n : ℕ) → number ≡ n → (c .consumed ≡ 0) × (c .sent ≡ 0) × (c .fault ≡ Nothing)
     unfolding tells tell
     refused zero e = absurd (r (number-by ∙ e))
-    refused (suc n) e = (ap (λ x. x .consumed) (told-as (suc n) e), ap (λ x. x .sent) (told-as (suc n) e))
+    refused (suc n) e =
+        let told = told-as (suc n) e in
+        (ap (λ x. x .consumed) told, ap (λ x. x .sent) told, ap (λ x. x .fault) told)
 
     pub refused-consumed : c .consumed ≡ 0
     refused-consumed = refused number refl .0
@@ -53,13 +56,16 @@ module _ {S : Type 0} {server : Server S} {number : ℕ} {s : S} {p : Port} {bs 
     pub refused-sent : c .sent ≡ 0
     refused-sent = refused number refl .1
 
+    pub refused-fault : c .fault ≡ Nothing
+    refused-fault = refused number refl .2
+
   -- and so does one that is served, and given no bytes
   module _ (z : c .number ≡ 0) (none : length bs ≡ 0) where
-    nothing : (given : List ℕ) → bs ≡ given → length given ≡ 0 → (c .consumed ≡ 0) × (c .sent ≡ 0)
+    nothing : (given : List ℕ) → bs ≡ given → length given ≡ 0 → (c .consumed ≡ 0) × (c .sent ≡ 0) × (c .fault ≡ Nothing)
     unfolding tells tell waiting
     nothing [] e h =
         let told = rw (e, step-waits server s (view p) [] (has-nothing 0x0D)) at (told-as 0 (sym number-by ∙ z)) in
-        (ap (λ x. x .consumed) told, ap (λ x. x .sent) told)
+        (ap (λ x. x .consumed) told, ap (λ x. x .sent) told, ap (λ x. x .fault) told)
     nothing (b ∷ given) e h = absurd (omega arith)
 
     pub nothing-consumed : c .consumed ≡ 0
@@ -67,6 +73,9 @@ module _ {S : Type 0} {server : Server S} {number : ℕ} {s : S} {p : Port} {bs 
 
     pub nothing-sent : c .sent ≡ 0
     nothing-sent = nothing bs refl none .1
+
+    pub nothing-fault : c .fault ≡ Nothing
+    nothing-fault = nothing bs refl none .2
 
   -- the port that is handed back by a call that is served
   handed : c .number ≡ 0 → Handed 0 p (step server s (view p) bs .port) (c .port)
@@ -87,13 +96,13 @@ module _ (r : Room) (vs : List ℤ) (p : Port) (bs buffer : List ℕ) where
 
   -- a refusal counts zero and changes nothing
   pub refused-told : (n : ℕ) → callNumber r vs (length buffer) (p .len) ≡ suc n
-      → call r vs p bs buffer ≡ record { number = suc n; consumed = 0; sent = 0; state = vs; buffer = buffer }
+      → call r vs p bs buffer ≡ record { number = suc n; consumed = 0; sent = 0; fault = Nothing; state = vs; buffer = buffer }
   unfolding call tell
   refused-told n e = rw e refl
 
   -- a field of what a call that was made told
   pub call-field : {c : Called} {vs′ : List ℤ} {buffer′ : List ℕ} → Answers r vs p bs buffer c vs′ buffer′ → {A : Type 0} (f : Told (List ℤ) → A)
-      → f (record { number = c .number; consumed = c .consumed; sent = c .sent; state = vs′; buffer = buffer′ }) ≡ f (call r vs p bs buffer)
+      → f (record { number = c .number; consumed = c .consumed; sent = c .sent; fault = c .fault; state = vs′; buffer = buffer′ }) ≡ f (call r vs p bs buffer)
   unfolding call
   call-field a f = told-field a f
 
@@ -107,7 +116,7 @@ module _ (r : Room) (vs : List ℤ) (p : Port) (buffer : List ℕ) (e : callNumb
   nothing-step : step (controlSpace r) vs (view p) [] ≡ waiting vs 0 (view p)
   nothing-step = step-nothing (controlSpace r) vs (view p) (claim-view p (served-claim r vs (length buffer) (p .len) e))
 
-  pub nothing-told : call r vs p [] buffer ≡ record { number = 0; consumed = 0; sent = 0; state = vs; buffer = buffer }
+  pub nothing-told : call r vs p [] buffer ≡ record { number = 0; consumed = 0; sent = 0; fault = Nothing; state = vs; buffer = buffer }
   unfolding call tell waiting
   nothing-told = rw (e, nothing-step) refl
 

@@ -7,6 +7,7 @@ use lib.ListN.{length, replicate}
 use Rattle.text.specs.Cut.{has}
 use Rattle.syntax.specs.Shape.{lineLimit}
 use Rattle.spelling.specs.Acknowledgement.{ack}
+use Rattle.line.specs.declared.fault.Fault.the-variants.{Nothing}
 use Rattle.serial_port.specs.Port.{fresh}
 use Rattle.serial_port.specs.Server.{Server}
 use Rattle.serial_port.specs.Play.{Played, ended, replyFirst, feed}
@@ -23,7 +24,7 @@ module _ {S : Type 0} (server : Server S) where
 
   -- a line that is acknowledged, before others
   pub line-acknowledged : (s after last : S) (l rest : List ℕ) (count : ℕ) → length l ≤ lineLimit → has 0x0D l ≡ false
-      → server .line s l ≡ record { reply = ack; state = after } → feed server fresh after rest ≡ acknowledged count last
+      → server .line s l ≡ record { reply = ack; fault = Nothing; state = after } → feed server fresh after rest ≡ acknowledged count last
       → feed server fresh s (l ++ 0x0D ∷ rest) ≡ acknowledged (suc count) last
   unfolding finished replyFirst
   line-acknowledged s after last l rest count k h a e = feed-line server s l rest k h ∙ rw (a, e) refl

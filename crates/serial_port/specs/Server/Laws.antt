@@ -6,6 +6,10 @@ use lib.IntN.{ℤ}
 use Rattle.spelling.specs.Acknowledgement.{nak}
 use Rattle.values.specs.Room.{Room}
 use Rattle.line.specs.Answer.{answer}
+use Rattle.syntax.specs.Shape.{lineLimit}
+use Rattle.syntax.specs.declared.cause.Cause.the-variants.{Overrun}
+use Rattle.line.specs.declared.fault.Fault.{Fault}
+use Rattle.line.specs.declared.fault.Fault.the-variants.{At}
 use Rattle.serial_port.specs.Server.{controlSpace}
 
 module _ (r : Room) (vs : List ℤ) where
@@ -13,18 +17,26 @@ module _ (r : Room) (vs : List ℤ) where
   unfolding controlSpace
   line-reply l = refl
 
+  pub line-fault : (l : List ℕ) → controlSpace r .line vs l .fault ≡ answer r vs l .fault
+  unfolding controlSpace
+  line-fault l = refl
+
   pub line-state : (l : List ℕ) → controlSpace r .line vs l .state ≡ answer r vs l .values
   unfolding controlSpace
   line-state l = refl
 
-  pub line-served : (l reply : List ℕ) (ws : List ℤ) → answer r vs l ≡ record { reply = reply; values = ws }
-      → controlSpace r .line vs l ≡ record { reply = reply; state = ws }
+  pub line-served : (l reply : List ℕ) (f : Fault) (ws : List ℤ) → answer r vs l ≡ record { reply = reply; values = ws; fault = f }
+      → controlSpace r .line vs l ≡ record { reply = reply; fault = f; state = ws }
   unfolding controlSpace
-  line-served l reply ws e = rw e refl
+  line-served l reply f ws e = rw e refl
 
   pub overrun-reply : controlSpace r .overrun vs .reply ≡ nak 99
   unfolding controlSpace
   overrun-reply = refl
+
+  pub overrun-fault : controlSpace r .overrun vs .fault ≡ At Overrun lineLimit
+  unfolding controlSpace
+  overrun-fault = refl
 
   pub overrun-state : controlSpace r .overrun vs .state ≡ vs
   unfolding controlSpace

@@ -12,6 +12,8 @@ use Rattle.text.specs.Cut.From.{from-after, from-joined}
 use Rattle.text.specs.Cut.Part.{part-last, part-middle}
 use Rattle.room.specs.Label.Match.{same-refl}
 use Rattle.syntax.specs.Shape.{lineLimit, isSet, isGet, opening, closing, equals, getShape, setShape, quoted, shape}
+use Rattle.syntax.specs.declared.cause.Cause.{Cause}
+use Rattle.syntax.specs.declared.cause.Cause.the-variants.{Overrun, NoVerb, NoOpeningQuote, NoClosingQuote, NoEquals}
 use Rattle.syntax.specs.declared.shape.Shape.{Shape}
 use Rattle.syntax.specs.declared.shape.Shape.the-variants.{Malformed, Set}
 
@@ -25,8 +27,8 @@ pub record Ordered (line : List ℕ) (o c e : ℕ) : Type 0 where
   pub ends : e < length line
   pub short : length line ≤ 64
 
-malformed {ℓ} : {A : Type ℓ} (o c e : ℕ) → Malformed ≡ Set o c e → A
-malformed o c e h = absurd (let z : _≡_ {A = ℕ} 0 1 = cc in omega arith)
+malformed {ℓ} : {A : Type ℓ} (x : Cause) (n o c e : ℕ) → Malformed x n ≡ Set o c e → A
+malformed x n o c e h = absurd (let z : _≡_ {A = ℕ} 0 1 = cc in omega arith)
 
 pub after-verb : (line : List ℕ) → 2 ≤ opening line
 unfolding opening
@@ -40,7 +42,7 @@ set-told : (line : List ℕ) (o c e : ℕ) → length line ≤ 64 → setShape l
 unfolding setShape closing equals
 set-told line o c e s h = go (ltb (equals line) (length line)) refl h
   where
-    go : (b : Bool) → ltb (equals line) (length line) ≡ b → cond b (Set (opening line) (closing line) (equals line)) Malformed ≡ Set o c e
+    go : (b : Bool) → ltb (equals line) (length line) ≡ b → cond b (Set (opening line) (closing line) (equals line)) (Malformed NoEquals (length line)) ≡ Set o c e
         → Ordered line o c e
     go true t h =
         let p : opening line ≡ o = cc in
@@ -51,16 +53,16 @@ set-told line o c e s h = go (ltb (equals line) (length line)) refl h
         let behind : opening line + 1 ≤ closing line = from-after 0x22 (opening line + 1) line in
         let divided : closing line + 1 ≤ equals line = from-after 0x3D (closing line + 1) line in
         record { verb = omega arith; label = omega arith; indices = omega arith; ends = omega arith; short = s }
-    go false t h = malformed o c e h
+    go false t h = malformed NoEquals (length line) o c e h
 
 quoted-told : (line : List ℕ) (s : Shape) (o c e : ℕ) → quoted line s ≡ Set o c e → s ≡ Set o c e
 unfolding quoted
 quoted-told line s o c e h = go (eqb (getD line (opening line) 0) 0x22) (ltb (closing line) (length line)) h
   where
-    go : (a b : Bool) → cond a (cond b s Malformed) Malformed ≡ Set o c e → s ≡ Set o c e
+    go : (a b : Bool) → cond a (cond b s (Malformed NoClosingQuote (length line))) (Malformed NoOpeningQuote (opening line)) ≡ Set o c e → s ≡ Set o c e
     go true true h = h
-    go true false h = malformed o c e h
-    go false b h = malformed o c e h
+    go true false h = malformed NoClosingQuote (length line) o c e h
+    go false b h = malformed NoOpeningQuote (opening line) o c e h
 
 never-set {ℓ} : {A : Type ℓ} (line : List ℕ) (o c e : ℕ) → getShape line ≡ Set o c e → A
 unfolding getShape
@@ -71,11 +73,12 @@ unfolding shape lineLimit
 set-ordered line o c e h = go (ltb 64 (length line)) (isSet line) (isGet line) refl h
   where
     go : (a b d : Bool) → ltb 64 (length line) ≡ a
-        → cond a Malformed (cond b (quoted line (setShape line)) (cond d (quoted line (getShape line)) Malformed)) ≡ Set o c e → Ordered line o c e
-    go true b d t h = malformed o c e h
+        → cond a (Malformed Overrun 64) (cond b (quoted line (setShape line)) (cond d (quoted line (getShape line)) (Malformed NoVerb 0))) ≡ Set o c e
+        → Ordered line o c e
+    go true b d t h = malformed Overrun 64 o c e h
     go false true d t h = set-told line o c e (ltb-false 64 (length line) t) (quoted-told line (setShape line) o c e h)
     go false false true t h = never-set line o c e (quoted-told line (getShape line) o c e h)
-    go false false false t h = malformed o c e h
+    go false false false t h = malformed NoVerb 0 o c e h
 
 -- ---- a set line put together
 

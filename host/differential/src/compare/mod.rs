@@ -86,6 +86,7 @@ impl Sides {
 pub struct Fed {
     pub consumed: usize,
     pub reply: Vec<u8>,
+    pub cause: usize,
 }
 
 /// Bytes of a usual reply or list buffer.

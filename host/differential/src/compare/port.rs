@@ -17,7 +17,7 @@ impl Compare<'_> {
         room: usize,
     ) -> Result<Option<Fed>, Difference> {
         let old = sides.clone();
-        let mut written = Written::new(rng, room);
+        let mut written = Written::new(rng, room, 4);
         let call = |core: &Calls, side: &mut Side, output: &mut Output| {
             (core.port)(
                 table,
@@ -52,6 +52,7 @@ impl Compare<'_> {
         })?;
         if let Some(fed) = fed.as_ref().filter(|fed| !fed.reply.is_empty()) {
             self.tally.note("reply", kind(&fed.reply));
+            self.tally.note("cause", &fed.cause.to_string());
         }
         Ok(fed)
     }
@@ -83,7 +84,7 @@ fn judge(
         "the ports are not the same"
     );
     let end = given.iter().position(|&byte| byte == b'\r');
-    let [consumed, length] = written.counts();
+    let [consumed, length, cause, place] = written.counts();
     ensure!(
         consumed == end.map_or(given.len(), |end| end + 1),
         "consumed"
@@ -106,6 +107,9 @@ fn judge(
         ensure!(new.port()[1] <= 1, "an overrun byte over 1 is stored");
     }
     let reply = &reply[..length];
+    ensure!((cause != 0) == (reply == b"\x1599\r"), "a cause without 99");
+    ensure!(cause <= 5 && place <= 64, "no cause, or no place");
+    ensure!(cause != 0 || place == 0, "a place without a cause");
     let pairs = old.values().iter().zip(new.values());
     let changed = pairs.filter(|(old, new)| old != new).count();
     ensure!(
@@ -115,6 +119,7 @@ fn judge(
     Ok(Some(Fed {
         consumed,
         reply: reply.to_vec(),
+        cause,
     }))
 }
 

@@ -20,7 +20,7 @@ impl Compare<'_> {
         wanted: &[i64],
         room: usize,
     ) -> Result<Answer, Difference> {
-        let mut written = Written::new(rng, room);
+        let mut written = Written::new(rng, room, 2);
         let call = |core: &Calls, output: &mut Output| {
             (core.restore)(
                 table,

@@ -19,11 +19,12 @@ pub struct Output {
 }
 
 impl Written {
-    pub fn new(rng: &mut Rng, room: usize) -> Written {
+    /// For a buffer of so many bytes, and so many told numbers.
+    pub fn new(rng: &mut Rng, room: usize, told: usize) -> Written {
         let filler = rng.byte();
         let output = Output {
             buffer: Lent::new(&vec![filler; room], 0x5A),
-            told: Lent::new(&[u64::from(filler); 2], 99),
+            told: Lent::new(&vec![u64::from(filler); told], 99),
         };
         Written {
             filler,
@@ -52,7 +53,8 @@ impl Written {
 
     /// A refusal writes nothing but zeros for the counts.
     pub fn refused(&self) -> Result<(), Difference> {
-        ensure!(self.counts() == [0, 0], "a refusal's counts");
+        let told = self.right.told.view();
+        ensure!(told.iter().all(|&number| number == 0), "a refusal's counts");
         ensure!(self.ends_by(0), "a refusal wrote");
         Ok(())
     }
@@ -63,9 +65,13 @@ impl Written {
         rest.is_some_and(|rest| rest.iter().all(|&byte| byte == self.filler))
     }
 
-    /// The two numbers told.
-    pub fn counts(&self) -> [usize; 2] {
-        let told = self.right.told.view();
-        [told[0] as usize, told[1] as usize]
+    /// The numbers told, all of them.
+    ///
+    /// # Panics
+    ///
+    /// Where they are more or fewer.
+    pub fn counts<const COUNT: usize>(&self) -> [usize; COUNT] {
+        let told: [u64; COUNT] = self.right.told.view().try_into().expect("as many are told");
+        told.map(|number| number as usize)
     }
 }

@@ -1,7 +1,7 @@
 //! Port calls on a room.
 
 use super::Room;
-use crate::{calls, Port, Refusal, Reply};
+use crate::{calls, Fault, Port, Refusal, Reply};
 
 /// What one port call did.
 #[derive(Clone, Debug, PartialEq, Eq)]
@@ -19,8 +19,9 @@ impl Room {
         let mut reply = Reply {
             buffer: [0; Port::REPLY],
             length: 0,
+            fault: None,
         };
-        let mut told = [0; 2];
+        let mut told = [0; 4];
         Refusal::check(calls::port(
             &self.table,
             &mut self.values,
@@ -29,9 +30,11 @@ impl Room {
             &mut reply.buffer,
             &mut told,
         ))?;
-        reply.length = told[1] as usize;
+        let [consumed, length, cause, place] = told;
+        reply.length = length as usize;
+        reply.fault = Fault::told(cause, place);
         Ok(Fed {
-            consumed: told[0] as usize,
+            consumed: consumed as usize,
             reply,
         })
     }

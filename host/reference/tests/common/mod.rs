@@ -27,6 +27,8 @@ pub struct Room {
     pub table: Vec<u8>,
     pub values: Vec<i64>,
     pub port: [u8; 66],
+    /// Cause and place that the last call told.
+    pub fault: [u64; 2],
 }
 
 /// Consumed bytes and the reply of an accepted call, or the refusal.
@@ -41,6 +43,7 @@ impl Room {
             table: table(modules),
             values: rows.map(|row| row.start()).collect(),
             port: [0; 66],
+            fault: [0; 2],
         }
     }
 
@@ -51,7 +54,7 @@ impl Room {
 
     pub fn feed(&mut self, given: &[u8]) -> Fed {
         let mut reply = [0xEE; 64];
-        let mut told = [9; 2];
+        let mut told = [9; 4];
         let answer = reference::port(
             &self.table,
             &mut self.values,
@@ -60,13 +63,17 @@ impl Room {
             &mut reply,
             &mut told,
         );
+        self.fault = [told[2], told[3]];
         if answer != 0 {
-            assert_eq!(told, [0, 0]);
+            assert_eq!(told, [0; 4]);
             assert_eq!(reply, [0xEE; 64]);
             return Err(answer);
         }
         let (written, rest) = reply.split_at(told[1] as usize);
         assert!(rest.iter().all(|&byte| byte == 0xEE));
+        // A cause is told exactly where the reply is 99.
+        assert_eq!(told[2] != 0, written == nak("99"));
+        assert!(told[2] <= 5 && told[3] <= 64 && (told[2] != 0 || told[3] == 0));
         Ok((told[0] as usize, written.to_vec()))
     }
 

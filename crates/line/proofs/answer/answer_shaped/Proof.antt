@@ -9,8 +9,10 @@ answer-shaped-spec =
     tie.close
     (tie.spec
     (λ c κs. search (answering, needs))  -- meaning-of-requires
-    (λ c. search (answering, needs))  -- enum-known-n
+    (λ c. search (answering, needs))  -- enum-known-cause
     (λ c κs. search (answering, needs))  -- put-nak-requires
+    (λ c. search (answering, needs))  -- enum-known-n
+    (λ c κs. search (answering, needs))  -- put-nak-requires-2
     (λ c. search (answering, needs))  -- enum-known-p
     (λ c κs. search (answering, needs))  -- tell-requires
     (λ c. search (answering, needs))  -- enum-known-p-2
@@ -23,4 +25,7 @@ answer-shaped-spec =
     (λ c. search (answering, needs))  -- returns-2
     (λ c. search (answering, needs))  -- same-length-5
     (λ c. search (answering, needs))  -- same-length-6
-    (λ c. search (answering, needs)))  -- returns-3
+    (λ c. search (answering, needs))  -- returns-3
+    (λ c. search (answering, needs))  -- same-length-7
+    (λ c. search (answering, needs))  -- same-length-8
+    (λ c. search (answering, needs)))  -- returns-4

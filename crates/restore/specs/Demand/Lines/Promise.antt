@@ -51,6 +51,7 @@ module _ (r : Room) (is-sound : sound (r .table) ≡ true) where
   effects vs l = go (line.effect r vs l is-sound)
     where
       go : line.Effect r vs l → Effect r vs l
+      go (line.malformed k n m e) = nothing (ap (λ a. a .values) e)
       go (line.refused n m e) = nothing (ap (λ a. a .values) e)
       go (line.told p m g h e) = nothing (ap (λ a. a .values) e)
       go (line.put p x m g h e) = puts p x (put-puttable r vs l p x is-sound m .reached) (ap (λ a. a .values) e) (λ target. costs vs l p x target m)

@@ -10,6 +10,6 @@ get-shape-spec =
     (tie.spec
     (λ c κs. search (get-rules, needs))  -- find-quotes-requires
     (λ c. search (get-rules, needs))  -- enum-known-quote
-    (λ c. search (get-rules, needs))  -- enum-told
+    (λ c. search (get-rules, needs))  -- enum-known-cause
     (λ c. search (get-rules, needs))  -- returns
     (λ c. search (get-rules, needs)))  -- returns-2

@@ -8,6 +8,7 @@ pub opening-spec : {M : Type 1} → statement M
 opening-spec =
     tie.close
     (tie.spec
-    (λ c. search (opening-rules, needs))  -- shared-slice-read-if1
     (λ c. search (opening-rules, needs))  -- returns
-    (λ c. search (opening-rules, needs)))  -- returns-2
+    (λ c. search (opening-rules, needs))  -- shared-slice-read-if2
+    (λ c. search (opening-rules, needs))  -- returns-2
+    (λ c. search (opening-rules, needs)))  -- returns-3

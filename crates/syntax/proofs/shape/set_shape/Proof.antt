@@ -13,6 +13,6 @@ set-shape-spec =
     (λ c. search (set-rules, needs))  -- add-find-from
     (λ c κs. search (set-rules, needs))  -- find-from-requires
     (λ c. search (set-rules, needs))  -- returns
-    (λ c. search (set-rules, needs))  -- enum-told
+    (λ c. search (set-rules, needs))  -- enum-known-cause
     (λ c. search (set-rules, needs))  -- returns-2
     (λ c. search (set-rules, needs)))  -- returns-3
