@@ -12,15 +12,15 @@ import sys
 
 # a definition, as `crate Module.name`; the files that may open it; why
 OPEN = [
-    ("*", "line/specs/Worked.antt", "the worked lines compute"),
-    ("*", "restore/specs/Worked.antt", "the worked lines compute"),
+    ("*", "line/specs/Worked*.antt", "the worked lines compute"),
+    ("*", "restore/specs/Worked*.antt", "the worked lists compute"),
     ("text Every.every", "catalogue/specs/Catalogue/*", "a test computed over the constant catalogue"),
     ("text Every.pairs", "catalogue/specs/Catalogue/*", "a test computed over the constant catalogue"),
     ("syntax Shape.lineLimit", "*", "a limit: 64 bytes of a line"),
     ("serial_port Refusal.replyLimit", "*", "a limit: 64 bytes of a reply buffer"),
     ("room Table.recordLimit", "*", "a limit: 64 records of a table"),
-    ("catalogue Catalogue.rowLimit", "*", "a limit: 33 rows of a module"),
-    ("values Values.valueLimit", "*", "a limit: 2,112 values of a table"),
+    ("catalogue Catalogue.rowLimit", "*", "a limit: 160 rows of a module"),
+    ("values Values.valueLimit", "*", "a limit: 10,240 values of a table"),
 ]
 
 root = pathlib.Path(sys.argv[1] if len(sys.argv) > 1 else pathlib.Path(__file__).parent.parent).resolve()

@@ -59,7 +59,8 @@ def refusals(edit):
     """What the checker refused: by function or law, where. A function that only waits for another is left out."""
     log = (root / "target/must-fail" / edit.parent.parent.name / edit.stem / ".log").read_text(errors="replace")
     places = {}
-    for file, name, words in re.findall(r"^(\S+):\d+:\d+: error: `?([^`\s:]*)`?:?(.*)", log, re.M):
+    # what is said of an error goes on in the lines behind it that are indented
+    for file, name, words in re.findall(r"^(\S+):\d+:\d+: error: `?([^`\s:]*)`?:?(.*(?:\n  .*)*)", log, re.M):
         if "was not admitted" in words:
             continue
         if "/specs/" in file:

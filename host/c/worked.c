@@ -1,4 +1,4 @@
-/* The worked lines on table A, from C. Says "ok" or what is wrong. */
+/* The worked lines on table A, and some to a mixer, from C. Says "ok" or what is wrong. */
 
 #include <stdio.h>
 #include <string.h>
@@ -91,6 +91,58 @@ static void show(void)
     expect(told[0] == 0 && told[1] == 0 && told[2] == 0, "the log over a cut table");
 }
 
+/* A mixer of one input and two outputs, and the bits of these. */
+#define INPUTS_AT (1 + EGRIVUNDO_LABEL_BYTES)
+#define OUTPUTS_AT (INPUTS_AT + 1)
+static const uint8_t mixer[EGRIVUNDO_MIXER_RECORD_BYTES] = {
+    [0] = EGRIVUNDO_STANDARD_MIXER, [1] = 'M', [INPUTS_AT] = 1, [OUTPUTS_AT] = 2};
+static const int64_t one = INT64_C(0x80000000);
+static const int64_t two = INT64_C(0x40000000);
+
+/* Gives one line to the mixer, and compares its reply and its word. */
+static void routed(const char *text, const char *reply, int64_t before, int64_t after)
+{
+    int64_t values[7] = {[6] = before};
+    uint8_t port[EGRIVUNDO_PORT_BYTES] = {0};
+    uint8_t buffer[EGRIVUNDO_REPLY_BYTES] = {0};
+    uint64_t told[EGRIVUNDO_PORT_TOLD] = {0};
+    uint8_t answer = egrivundo_port(mixer, sizeof mixer, values, 7, port, (const uint8_t *)text,
+                                    strlen(text), buffer, sizeof buffer, told);
+    expect(answer == EGRIVUNDO_OK && told[1] == strlen(reply), text);
+    expect(memcmp(buffer, reply, strlen(reply)) == 0, text);
+    expect(values[6] == after, text);
+}
+
+/* The list that takes the mixer's word from nothing to these outputs. */
+static void rerouted(int64_t word, const char *list)
+{
+    const int64_t present[7] = {0};
+    const int64_t wanted[7] = {[6] = word};
+    const uint8_t selection[1] = {1};
+    uint8_t buffer[64] = {0};
+    uint64_t told[EGRIVUNDO_RESTORE_TOLD] = {9, 9};
+    uint8_t answer = egrivundo_restore(mixer, sizeof mixer, present, 7, selection, 1, wanted, 7,
+                                       buffer, sizeof buffer, told);
+    expect(answer == EGRIVUNDO_OK && told[0] == strlen(list) && told[1] == 1, list);
+    expect(memcmp(buffer, list, strlen(list)) == 0, list);
+}
+
+/* A size is 1 to 32. */
+static void sizes(void)
+{
+    int size;
+    for (size = 0; size < 256; size++) {
+        uint8_t right = size >= 1 && size <= 32 ? EGRIVUNDO_OK : EGRIVUNDO_REFUSED_TABLE;
+        uint8_t other[sizeof mixer];
+        memcpy(other, mixer, sizeof mixer);
+        other[INPUTS_AT] = (uint8_t)size;
+        expect(egrivundo_table(other, sizeof other) == right, "a number of inputs");
+        memcpy(other, mixer, sizeof mixer);
+        other[OUTPUTS_AT] = (uint8_t)size;
+        expect(egrivundo_table(other, sizeof other) == right, "a number of outputs");
+    }
+}
+
 int main(void)
 {
     table[0] = EGRIVUNDO_TONE_CONTROL_EQ;
@@ -115,6 +167,16 @@ int main(void)
     line("SA \r", "\x15" "99\r", 0, 0, EGRIVUNDO_FAULT_NO_OPENING_QUOTE, 3);
     line("SA\r", "\x15" "99\r", 0, 0, EGRIVUNDO_FAULT_NO_OPENING_QUOTE, 2);
     line("S\r", "\x15" "99\r", 0, 0, EGRIVUNDO_FAULT_NO_VERB, 0);
+    routed("SA\"M\">3>1=C0000000\r", "\x06\r", 0, one + two);
+    routed("SA\"M\">3>1=20000000\r", "\x15" "03\r", one, one);
+    routed("SA\"M\">4>(1,2)=O\r", "\x06\r", one, one + two);
+    routed("SA\"M\">4>(1,1)=T\r", "\x06\r", one + two, two);
+    routed("SA\"M\">4>(1,3)=O\r", "\x15" "02\r", 0, 0);
+    routed("GA\"M\">3>1\r", "GA\"M\">3>1=40000000\r", two, two);
+    routed("GA\"M\">04>(01,02)\r", "GA\"M\">4>(1,2)=O\r", two, two);
+    rerouted(two, "SA\"M\">4>(1,2)=O\r");
+    rerouted(one + two, "SA\"M\">3>1=C0000000\r");
+    sizes();
     restore();
     overrun();
     show();

@@ -27,24 +27,32 @@ extern "C" {
 #endif
 
 /* Limits. */
-#define EGRIVUNDO_RECORD_BYTES 33 /* of a table record: kind, then label   */
-#define EGRIVUNDO_LABEL_BYTES 32  /* of a label, at most                   */
-#define EGRIVUNDO_MODULES 64      /* in a table, at most                   */
-#define EGRIVUNDO_VALUES 2112     /* of a table, at most                   */
-#define EGRIVUNDO_HELD_BYTES 64   /* of an unfinished line, at most        */
-#define EGRIVUNDO_REPLY_BYTES 64  /* that a reply buffer must have         */
-#define EGRIVUNDO_PORT_BYTES 66   /* of a port: held count, overrun, bytes */
-#define EGRIVUNDO_PORT_TOLD 4     /* numbers told by the port call         */
-#define EGRIVUNDO_RESTORE_TOLD 2  /* numbers told by the restore call      */
-#define EGRIVUNDO_LOG_TOLD 3      /* numbers told by the log call          */
+#define EGRIVUNDO_RECORD_BYTES 33       /* of a record of kinds 1 to 6: kind,
+                                         * then label                         */
+#define EGRIVUNDO_MIXER_RECORD_BYTES 35 /* of a mixer's record: kind, label,
+                                         * inputs, outputs                    */
+#define EGRIVUNDO_LABEL_BYTES 32        /* of a label, at most                */
+#define EGRIVUNDO_MODULES 64            /* in a table, at most                */
+#define EGRIVUNDO_TABLE_BYTES 2240      /* of a table, at most                */
+#define EGRIVUNDO_VALUES 10240          /* of a table, at most                */
+#define EGRIVUNDO_HELD_BYTES 64         /* of an unfinished line, at most     */
+#define EGRIVUNDO_REPLY_BYTES 64        /* that a reply buffer must have      */
+#define EGRIVUNDO_PORT_BYTES 66         /* of a port: held count, overrun,
+                                         * bytes                              */
+#define EGRIVUNDO_PORT_TOLD 4           /* numbers told by the port call      */
+#define EGRIVUNDO_RESTORE_TOLD 2        /* numbers told by the restore call   */
+#define EGRIVUNDO_LOG_TOLD 3            /* numbers told by the log call       */
 
-/* Kinds of a record. */
-#define EGRIVUNDO_TONE_CONTROL_EQ 1        /*  6 values */
-#define EGRIVUNDO_SMARTBASS 2              /*  1 value  */
-#define EGRIVUNDO_DYNAMIC_EQ 3             /*  1 value  */
-#define EGRIVUNDO_ROOM_COMBINER 4          /*  7 values */
-#define EGRIVUNDO_CONFERENCE_ROUTER 5      /* 33 values */
-#define EGRIVUNDO_FEEDBACK_SUPPRESSION 6   /*  2 values */
+/* Kinds of a record. A mixer of M inputs and N outputs, each a byte from 1 to
+ * 32, has level and mute of each input, then of each output, then a routing
+ * word for each input. */
+#define EGRIVUNDO_TONE_CONTROL_EQ 1      /*  6 values          */
+#define EGRIVUNDO_SMARTBASS 2            /*  1 value           */
+#define EGRIVUNDO_DYNAMIC_EQ 3           /*  1 value           */
+#define EGRIVUNDO_ROOM_COMBINER 4        /*  7 values          */
+#define EGRIVUNDO_CONFERENCE_ROUTER 5    /* 33 values          */
+#define EGRIVUNDO_FEEDBACK_SUPPRESSION 6 /*  2 values          */
+#define EGRIVUNDO_STANDARD_MIXER 7       /*  3 M + 2 N values  */
 
 /* Answers. With 1 to 8 the told numbers become 0 and nothing else changes;
  * where several apply, the first in its call's order is given. */
@@ -73,7 +81,7 @@ extern "C" {
 #define EGRIVUNDO_FAULT_NO_EQUALS 5        /* of SA; at the line's end        */
 
 /* Whether a table is sound.
- *   table  records of 33 bytes, 0 to 64 of them
+ *   table  0 to 64 records, of 33 bytes or, a mixer's, of 35
  * Answers 0 (sound) or 1 (not sound). */
 uint8_t egrivundo_table(const uint8_t *table, size_t table_count);
 
@@ -91,7 +99,9 @@ void egrivundo_log(const uint8_t *table, size_t table_count,
  * where there is none, and serves a line that it ends.
  *   table   a sound table
  *   values  one for each parameter: levels in tenths of a dB, switches 0 or
- *           1, numbers as they are; a line that is acknowledged sets one
+ *           1, numbers as they are, routing words as 0 to 4294967295, with
+ *           0x80000000 for output 1 and only bits of outputs that the mixer
+ *           has; a line that is acknowledged sets one, or one bit of a word
  *   port    [0] how many bytes are held (0 to 64), [1] overrun (0 no, any
  *           other byte yes), [2..] the held bytes. All zero is the fresh
  *           port. What stands past the held bytes, and the held bytes of an
@@ -100,8 +110,9 @@ void egrivundo_log(const uint8_t *table, size_t table_count,
  *           refused one, leave all 66 bytes as they were
  *   given   the bytes that have come
  *   reply   at least 64 bytes; the reply is put at its start, the rest stays.
- *           A get line is answered with the line that a restore list has for
- *           the value, GA for SA: whole decibels have no point
+ *           A get line is answered in the form asked, a routing word by index
+ *           3 and one of its outputs by index 4, with the value as a restore
+ *           list has it: whole decibels have no point
  *   told    [0] bytes consumed, [1] length of the reply (0: none), [2] why the
  *           line was answered with 99 (0 with any other reply, and without
  *           one), [3] its place (0 where there is no cause)
@@ -119,7 +130,8 @@ uint8_t egrivundo_port(const uint8_t *table, size_t table_count,
  *   present    the present values, only read
  *   selection  one byte for each module: 1 chosen, 0 not
  *   wanted     as many as present; only entries of chosen modules count
- *   list       the list is put at its start, the rest stays
+ *   list       the list is put at its start, the rest stays. A routing word
+ *              in which one output differs is said by index 4, else by index 3
  *   told       [0] bytes written, [1] lines written
  * Answers 0, 1, 2, 5, 6, 7 or 8. */
 uint8_t egrivundo_restore(const uint8_t *table, size_t table_count,

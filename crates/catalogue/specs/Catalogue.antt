@@ -1,24 +1,29 @@
--- The catalogue: the fifty parameters of the six module types. Within a type they rise by index 1, and where it is the same by index 2.
+-- The catalogue: the parameters of the seven module types. Those of six types are a table of fifty, which rise within a type by index 1, and where it is the same by index 2; those of the seventh,
+-- the Standard Mixer, are computed from its size.
 pub mod Counted
 pub mod Distinct
 pub mod Each
 pub mod Fits
 pub mod Laws
+pub mod Modules
 pub mod Numbers
+pub mod Routed
 pub mod Rules
+pub mod Run
 pub mod Sized
 pub mod Starts
-use mathlib.Core.Bool.{Bool, true, false, cond, _&&_}
+use mathlib.Core.Bool.{Bool, true, false, cond, not, _&&_, _||_}
 use mathlib.Core.List.{List, [], _∷_, map}
 use Prim.Native.Nat.{ℕ, suc}
 use lib.Dec.{eqb, leb, ltb}
 use lib.IntN.{ℤ, pos, negsuc, negℤ}
 use lib.ListN.{getD}
+use Rattle.catalogue.specs.Mixer.{mixerRows, sizeRight}
 use Rattle.catalogue.specs.declared.layout.Layout.{Layout}
 use Rattle.catalogue.specs.declared.row.Indices.{Indices}
 use Rattle.catalogue.specs.declared.row.Indices.the-variants.{OneGroup, TwoGroups}
 use Rattle.catalogue.specs.declared.row.Kind.{Kind}
-use Rattle.catalogue.specs.declared.row.Kind.the-variants.{Level, Switch, Number}
+use Rattle.catalogue.specs.declared.row.Kind.the-variants.{Level, Switch, Number, Word}
 use Rattle.catalogue.specs.declared.row.Row.{Row}
 
 -- a row, and the module type that has it
@@ -99,9 +104,13 @@ catalogue =
     number 6 (TwoGroups 1 1) 1 43200 true ∷
     []
 
--- the module types are numbered 1 to 6
+-- the module types are numbered 1 to 7
 unfoldable pub known : ℕ → Bool
-known owner = leb 1 owner && leb owner 6
+known kind = leb 1 kind && leb kind 7
+
+-- 1 to 6 have their rows in the catalogue
+unfoldable pub fixed : ℕ → Bool
+fixed kind = leb 1 kind && leb kind 6
 
 -- the rows that a module type has, in the catalogue's order
 unfoldable pub rowsIn : ℕ → List Entry → List Row
@@ -118,17 +127,17 @@ firstRow owner = rowsBefore owner catalogue
 
 -- ---- the rows of a module, by its layout
 
--- a module's kind is a module type
+-- a module's kind is a module type, and a mixer's size is right
 unfoldable pub knownLayout : Layout → Bool
-knownLayout l = known (l .kind)
+knownLayout l = known (l .kind) && (not (eqb (l .kind) 7) || (sizeRight (l .inputs) && sizeRight (l .outputs)))
 
--- the rows of a module
+-- the rows of a module: a mixer's by its size, and of another kind those that the catalogue has
 unfoldable pub rowsOf : Layout → List Row
-rowsOf l = rowsIn (l .kind) catalogue
+rowsOf l = cond (eqb (l .kind) 7) (mixerRows (l .inputs) (l .outputs)) (rowsIn (l .kind) catalogue)
 
 -- how many rows a module may have
 unfoldable pub rowLimit : ℕ
-rowLimit = 33
+rowLimit = 160
 
 -- ---- an entry and a row by their numbers
 
@@ -148,10 +157,12 @@ rowOf l number = getD (rowsOf l) number noRow
 
 -- ---- the catalogue as the constant's numbers
 
+-- no entry of the catalogue is a word
 unfoldable pub kindNumber : Kind → ℤ
 kindNumber Level = pos 0
 kindNumber Switch = pos 1
 kindNumber Number = pos 2
+kindNumber Word = pos 3
 
 unfoldable pub firstNumber : Indices → ℤ
 firstNumber (OneGroup a) = pos a

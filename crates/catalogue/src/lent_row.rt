@@ -1,6 +1,8 @@
 // A row of the catalogue, read from the lent table of numbers.
 use crate::first_row;
+use crate::is_fixed;
 use crate::layout::Layout;
+use crate::mixer::mixer_row;
 use crate::row::Indices;
 use crate::row::Kind;
 use crate::row::Row;
@@ -11,7 +13,7 @@ ghost use lib.Dec.{T};
 ghost use lib.IntN.{natAbs};
 ghost use lib.ListN.{length};
 ghost use lib.Signed.{nonNeg};
-ghost use Rattle.catalogue.specs.Catalogue.{catalogue, entryAt, knownLayout, numbers, rowOf, rowsOf};
+ghost use Rattle.catalogue.specs.Catalogue.{catalogue, entryAt, fixed, knownLayout, numbers, rowOf, rowsOf};
 ghost use Rattle.catalogue.specs.Catalogue.Numbers.{columnAt, indicesFrom, kindFrom};
 ghost use Rattle.catalogue.specs.Row.{permitted};
 
@@ -49,7 +51,8 @@ fn kind_from(code: u64) -> Kind
     match code {
         0 => Kind::Level,
         1 => Kind::Switch,
-        _ => Kind::Number,
+        2 => Kind::Number,
+        _ => Kind::Word,
     }
 }
 
@@ -75,12 +78,24 @@ fn row_at(rows: &[[i32; 8]; 50], n: usize) -> Row
     }
 }
 
+// Row `number` of a module that is no mixer.
+pub fn listed_row(rows: &[[i32; 8]; 50], layout: Layout, number: usize) -> Row
+    requires { ⌜ (now rows ≡ numbers) × (knownLayout layout ≡ true) × (number < length (rowsOf layout)) ⌝ }
+    requires { ⌜ fixed (layout .kind) ≡ true ⌝ }
+    ensures { λ r. ⌜ r ≡ rowOf layout number ⌝ }
+{
+    row_at(rows, first_row(layout.kind) + number)
+}
+
 // Row `number` of a module.
 pub fn row_of(rows: &[[i32; 8]; 50], layout: Layout, number: usize) -> Row
     requires { ⌜ (now rows ≡ numbers) × (knownLayout layout ≡ true) × (number < length (rowsOf layout)) ⌝ }
     ensures { λ r. ⌜ r ≡ rowOf layout number ⌝ }
 {
-    row_at(rows, first_row(layout.kind) + number)
+    if is_fixed(layout.kind) {
+        return listed_row(rows, layout, number);
+    }
+    mixer_row(layout.inputs as u64, layout.outputs as u64, number as u64)
 }
 
 // Whether row n of the table permits the value v; no row is built, and the row's numbers are narrow.

@@ -1,6 +1,8 @@
 // The catalogue: the rows of the module types, which values each permits, and the one constant table.
+pub mod groups;
 pub mod layout;
 pub mod lent_row;
+pub mod mixer;
 pub mod row;
 pub mod table;
 
@@ -8,30 +10,51 @@ use crate::layout::Layout;
 ghost use mathlib.Core.Bool.{true};
 ghost use mathlib.Core.Path.{_≡_};
 ghost use lib.ListN.{length};
-ghost use Rattle.catalogue.specs.Catalogue.{firstRow, known, knownLayout, rowsOf};
+ghost use Rattle.catalogue.specs.Catalogue.{catalogue, firstRow, fixed, knownLayout, rowsIn, rowsOf};
 
 // How many rows a module may have.
-pub const ROWS: usize = 33;
+pub const ROWS: usize = 160;
 
-// How many rows a module has.
-pub fn row_count(layout: Layout) -> usize
-    requires { ⌜ knownLayout layout ≡ true ⌝ }
-    ensures { λ r. ⌜ r ≡ length (rowsOf layout) ⌝ }
+// Whether a byte is a module type that is no mixer.
+pub fn is_fixed(kind: u8) -> bool
+    ensures { λ r. ⌜ r ≡ fixed kind ⌝ }
 {
-    let kind = layout.kind;
+    if kind < 1 {
+        return false;
+    }
+    kind <= 6
+}
+
+// How many rows a module type that is no mixer has.
+fn fixed_count(kind: u8) -> usize
+    requires { ⌜ fixed kind ≡ true ⌝ }
+    ensures { λ r. ⌜ r ≡ length (rowsIn kind catalogue) ⌝ }
+{
     match kind {
         1 => 6,
         2 => 1,
         3 => 1,
         4 => 7,
         5 => 33,
-        _ => 2,
+        6 => 2,
+        _ => 0,
     }
 }
 
-// Where a module type's rows begin in the table.
+// How many rows a module has.
+pub fn row_count(layout: Layout) -> usize
+    requires { ⌜ knownLayout layout ≡ true ⌝ }
+    ensures { λ r. ⌜ r ≡ length (rowsOf layout) ⌝ }
+{
+    if is_fixed(layout.kind) {
+        return fixed_count(layout.kind);
+    }
+    3 * layout.inputs as usize + 2 * layout.outputs as usize
+}
+
+// Where the rows of a module type that is no mixer begin in the table.
 pub fn first_row(kind: u8) -> usize
-    requires { ⌜ known kind ≡ true ⌝ }
+    requires { ⌜ fixed kind ≡ true ⌝ }
     ensures { λ r. ⌜ r ≡ firstRow kind ⌝ }
 {
     match kind {
@@ -40,6 +63,7 @@ pub fn first_row(kind: u8) -> usize
         3 => 7,
         4 => 8,
         5 => 15,
-        _ => 48,
+        6 => 48,
+        _ => 0,
     }
 }

@@ -12,6 +12,7 @@ pub enum Kind {
     Level,
     Switch,
     Number,
+    Word,
 }
 
 pub struct Row {

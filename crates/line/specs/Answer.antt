@@ -1,4 +1,5 @@
 -- The answer to a line: its reply, why it was 99, and the values afterwards.
+pub mod Crosspoints
 pub mod Faults
 pub mod Laws
 pub mod Replies
@@ -26,12 +27,12 @@ pub record Answer : Type 0 where
   pub values : List ℤ
   pub fault : Fault
 
--- a malformed line gets 99, with its cause and place, and any other code is a NAK without; neither changes a value. A get tells the present value; a put is acknowledged and
+-- a malformed line gets 99, with its cause and place, and any other code is a NAK without; neither changes a value. A get tells the present value in the form asked; a put is acknowledged and
 -- sets one value
 unfoldable pub act : List ℕ → List ℤ → Meaning → Answer
 act t vs (Malformed k n) = record { reply = nak 99; values = vs; fault = At k n }
 act t vs (Code n) = record { reply = nak n; values = vs; fault = Nothing }
-act t vs (Get p) = record { reply = getReply t p (getD vs (place p) (pos 0)); values = vs; fault = Nothing }
+act t vs (Get p u) = record { reply = getReply t p u (getD vs (place p) (pos 0)); values = vs; fault = Nothing }
 act t vs (Put p x) = record { reply = ack; values = set vs (place p) x; fault = Nothing }
 
 -- the answer to a line: what it means in the room with these values is done

@@ -5,3 +5,4 @@ pub mod Meaning
 pub mod Said
 pub mod Told
 pub mod Worked
+pub mod WorkedMixer

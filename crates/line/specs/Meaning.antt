@@ -1,20 +1,23 @@
--- What a line means: why it is malformed, the first code that applies, a parameter to tell, or a parameter and the value that it is set to.
+-- What a line means: why it is malformed, the first code that applies, a part of a parameter to tell, or a parameter and the value that it is set to.
 pub mod Bearing
 pub mod Laws
+pub mod Outputs
 pub mod Reading
 use mathlib.Core.List.{List}
 use Prim.Native.Nat.{ℕ, _+_}
 use lib.IntN.{ℤ, pos}
 use lib.ListN.{length, getD}
+use Rattle.catalogue.specs.declared.groups.Part.{Part}
 use Rattle.room.specs.Label.{bearer}
-use Rattle.values.specs.Parameters.{named, place}
+use Rattle.values.specs.Control.{named}
+use Rattle.values.specs.Parameters.{place}
 use Rattle.values.specs.Room.{Room, rowIn}
 use Rattle.room.specs.declared.label.Bearer.{Bearer}
 use Rattle.room.specs.declared.label.Bearer.the-variants.{Only, NotOne}
 use Rattle.room.specs.declared.table.Module.{Module}
 use Rattle.values.specs.declared.parameter.Parameter.{Parameter}
-use Rattle.values.specs.declared.parameter.ParameterFound.{ParameterFound}
-use Rattle.values.specs.declared.parameter.ParameterFound.the-variants.{At, Nothing}
+use Rattle.values.specs.declared.control.ControlFound.{ControlFound}
+use Rattle.values.specs.declared.control.ControlFound.the-variants.{At, Nothing}
 use Rattle.text.specs.Cut.{part}
 use Rattle.syntax.specs.Shape.{shape}
 use Rattle.syntax.specs.IndexPart.{readIndices}
@@ -28,18 +31,18 @@ use Rattle.syntax.specs.declared.value_text.ValueText.the-variants as value
 use Rattle.line.specs.declared.meaning.Meaning.{Meaning}
 use Rattle.line.specs.declared.meaning.Meaning.the-variants.{Malformed, Code, Get, Put}
 
--- the parameter of the module m that the index part names
-unfoldable pub indexed : Module → IndexPart → ParameterFound
+-- what the index part names in the module m
+unfoldable pub indexed : Module → IndexPart → ControlFound
 indexed m (index.Right i) = named m i
 indexed m index.Wrong = Nothing
 
--- the parameter that a label and an index part name, or the code 1 or 2
+-- what a label and an index part name, a parameter and which part of it, or the code 1 or 2
 pub data Target : Type 0 where
-  target : Parameter → Target
+  target : Parameter → Part → Target
   code : ℕ → Target
 
-unfoldable pub inModule : ParameterFound → Target
-inModule (At p) = target p
+unfoldable pub inModule : ControlFound → Target
+inModule (At p u) = target p u
 inModule Nothing = code 2
 
 unfoldable pub inRoom : Bearer → IndexPart → Target
@@ -52,12 +55,12 @@ putOf p (value.Value x) = Put p x
 putOf p value.Wrong = Code 3
 
 unfoldable pub getOf : Target → Meaning
-getOf (target p) = Get p
+getOf (target p u) = Get p u
 getOf (code n) = Code n
 
--- the text is read by the row by which the room judges the parameter's value
+-- the text is read by the row by which the room judges the parameter's value, in the form of the part that is named
 unfoldable pub setOf : Room → List ℤ → List ℕ → Target → Meaning
-setOf r vs text (target p) = putOf p (readValue (rowIn r p) (getD vs (place p) (pos 0)) text)
+setOf r vs text (target p u) = putOf p (readValue (rowIn r p) u (getD vs (place p) (pos 0)) text)
 setOf r vs text (code n) = Code n
 
 -- the module that alone bears a line's label, which stands between its quotes; a malformed line has no label

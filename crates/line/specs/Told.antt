@@ -6,17 +6,19 @@ use Prim.Native.Nat.{ℕ, _+_, _≤_}
 use lib.IntN.{ℤ}
 use lib.ListN.{length, take}
 use Rattle.text.specs.Cut.{indexOf}
+use Rattle.catalogue.specs.declared.groups.Part.{Part}
 use Rattle.values.specs.declared.parameter.Parameter.{Parameter}
-use Rattle.syntax.specs.Value.{readKind}
+use Rattle.syntax.specs.Value.{readPart}
 use Rattle.spelling.specs.Reply.{asSetLine}
-use Rattle.spelling.specs.Text.{textOf}
+use Rattle.spelling.specs.Text.{partText}
 use Rattle.line.specs.Said.Naming.{Parts}
+use Rattle.line.specs.Said.Texts.{partPut}
 use Rattle.syntax.specs.declared.value_text.ValueText.the-variants.{Value}
 
--- what a get reply says: the parameter p by label and indices, and the value v
-pub record Told (t : List ℕ) (p : Parameter) (v : ℤ) (reply : List ℕ) : Type 0 where
+-- what a get reply says: the part u of the parameter p by label and index groups, and this part of the value v; said to a present value it puts the part
+pub record Told (t : List ℕ) (p : Parameter) (u : Part) (v : ℤ) (reply : List ℕ) : Type 0 where
   pub verb : take 2 reply ≡ 0x47 ∷ 0x41 ∷ []
   pub ends : indexOf 0x0D reply + 1 ≡ length reply
   pub short : length reply ≤ 51
-  pub parts : Parts t p (textOf (p .row .kind) v) (asSetLine reply)
-  pub says : (present : ℤ) → readKind (p .row .kind) present (textOf (p .row .kind) v) ≡ Value v
+  pub parts : Parts t p u (partText (p .row .kind) u v) (asSetLine reply)
+  pub says : (present : ℤ) → readPart (p .row .kind) u present (partText (p .row .kind) u v) ≡ Value (partPut u present v)

@@ -19,18 +19,21 @@ use Rattle.room.specs.Table.{recordLimit, modulesFrom, modules}
 use Rattle.record.specs.Body.{bodyLength}
 use Rattle.record.specs.Layout.{layoutOf}
 use Rattle.room.specs.Label.{label, same, bearersIn, exactlyOne, bearer}
-use Rattle.values.specs.Parameters.{numbered, parametersOf, place, withIndices, named}
+use Rattle.values.specs.Control.{crosspoint, isWord, named, whole}
+use Rattle.values.specs.Parameters.{numbered, parametersOf, place, withIndices}
 use Rattle.values.specs.Room.{roomOf, rowIn}
 use Rattle.syntax.specs.Shape.{lineLimit, isSet, isGet, opening, closing, equals, getShape, setShape, quoted, shape}
 use Rattle.syntax.specs.Cause.{causeNumber}
+use Rattle.syntax.specs.IndexGroup.{pairOf, closedPair, insidePair, readPair, orPair, readGroup}
 use Rattle.syntax.specs.IndexPart.{oneGroup, twoGroups, groups, readIndices}
-use Rattle.syntax.specs.Value.{ofLevel, ofNumber, ofSwitch, readKind, onlyPermitted, readValue}
+use Rattle.syntax.specs.Value.{ofLevel, ofNumber, ofSwitch, readKind, readPart, onlyPermitted, readValue}
 use Rattle.line.specs.Meaning.{indexed, inModule, inRoom, putOf, getOf, setOf, bearerOf, ofShape, meaning}
 use Rattle.spelling.specs.Name.{front, name}
-use Rattle.spelling.specs.IndexText.{indexText}
+use Rattle.spelling.specs.IndexText.{groupText, indexText}
+use Rattle.catalogue.specs.Groups.{groupsOf}
 use Rattle.spelling.specs.Line.{lineFor}
 use Rattle.spelling.specs.Reply.{getReply}
-use Rattle.spelling.specs.Text.{textOf}
+use Rattle.spelling.specs.Text.{partText, textOf}
 use Rattle.spelling.specs.Acknowledgement.{ack, nak}
 use Rattle.line.specs.Fault.{faultNumbers}
 use Rattle.line.specs.Answer.{Answer, act, answer}
@@ -97,6 +100,7 @@ cases =
     refused "SA\"Q\">9=x" "01" ∷
     refused "SA\"T\">9=x" "02" ∷
     refused "SA\"T\">1>0=1" "02" ∷
+    refused "SA\"T\">4>(1,2)=O" "02" ∷
     malformed "SA\"T\">1" 5 7 ∷
     malformed "" 2 0 ∷
     malformed "S" 2 0 ∷
@@ -126,8 +130,8 @@ unfolding answered cases bytes puts told refused malformed faultNumbers causeNum
     indexOf has before after isDigit allDigits every readOn numberOf digitsWithin digits
     signed levelTenth levelPoint levelMore levelWhole readLevel signText tenthText shortTenthText wholeText levelText numberForm readNumber switchLetter readSwitch switchText
     minus level switch number catalogue rowsIn rowsOf permitted bodyLength layoutOf recordLimit modulesFrom modules
-    label same bearersIn exactlyOne bearer numbered parametersOf place rowIn sameIndices withIndices named
+    label same bearersIn exactlyOne bearer numbered parametersOf place rowIn sameIndices withIndices whole isWord crosspoint named
     lineLimit isSet isGet opening firstFrom closing equals getShape setShape quoted shape part
-    oneGroup twoGroups groups readIndices ofLevel ofNumber ofSwitch readKind onlyPermitted readValue
-    indexed inModule inRoom putOf getOf setOf bearerOf ofShape meaning ack nak indexText textOf name front lineFor getReply act answer
+    pairOf closedPair insidePair readPair orPair readGroup oneGroup twoGroups groups readIndices ofLevel ofNumber ofSwitch readKind readPart onlyPermitted readValue
+    indexed inModule inRoom putOf getOf setOf bearerOf ofShape meaning ack nak groupsOf groupText indexText textOf partText name front lineFor getReply act answer
 worked = refl

@@ -3,6 +3,7 @@ use crate::fault::Fault;
 use crate::meaning::Meaning;
 use crate::meaning::bearer_of;
 use crate::meaning::meaning_of;
+use catalogue::groups::Part;
 use room::label::Bearer;
 use spelling::acknowledgement::put_ack;
 use spelling::acknowledgement::put_nak;
@@ -34,14 +35,14 @@ pub struct Answered {
     pub fault: Fault,
 }
 
-// Tells the present value of a parameter.
-fn tell(table: &[u8], values: &[i64], p: Parameter, reply: &mut [u8]) -> usize
-    requires { ⌜ Tellable (now table) (now values) p ⌝ }
+// Tells the present value of a part of a parameter.
+fn tell(table: &[u8], values: &[i64], p: Parameter, named: Part, reply: &mut [u8]) -> usize
+    requires { ⌜ Tellable (now table) (now values) p named ⌝ }
     requires { ⌜ 64 ≤ length (now reply) ⌝ }
-    ensures { λ r. ⌜ Wrote (now (reply .entry)) 0 (getReply (now (table .entry)) p (getD (now (values .entry)) (place p) (pos 0))) r (now (reply .exit)) ⌝ }
+    ensures { λ r. ⌜ Wrote (now (reply .entry)) 0 (getReply (now (table .entry)) p named (getD (now (values .entry)) (place p) (pos 0))) r (now (reply .exit)) ⌝ }
 {
     let place = p.owner.first + p.number;
-    put_get(table, p, values[place], reply)
+    put_get(table, p, named, values[place], reply)
 }
 
 // Sets the value of a parameter, and acknowledges.
@@ -79,8 +80,8 @@ fn answer_shaped(
             sent: put_nak(reply, n),
             fault: Fault::Nothing,
         },
-        Meaning::Get(p) => Answered {
-            sent: tell(table, values, p, reply),
+        Meaning::Get(p, named) => Answered {
+            sent: tell(table, values, p, named, reply),
             fault: Fault::Nothing,
         },
         Meaning::Put(p, x) => Answered {

@@ -1,4 +1,5 @@
 // What a line means: why it is malformed, the first code that applies, or the parameter that it names.
+use catalogue::groups::Part;
 use room::label::Bearer;
 use room::label::find_bearer;
 use room::table::Module;
@@ -8,9 +9,9 @@ use syntax::index_part::read_indices;
 use syntax::shape::Shape;
 use syntax::value_text::ValueText;
 use syntax::value_text::read_value;
+use values::control::ControlFound;
+use values::control::named;
 use values::parameter::Parameter;
-use values::parameter::ParameterFound;
-use values::parameter::named;
 ghost use mathlib.Core.Bool.{true};
 ghost use mathlib.Core.Path.{_≡_};
 ghost use lib.IntN.{pos};
@@ -24,57 +25,58 @@ ghost use Rattle.room.specs.Table.{sound};
 ghost use Rattle.values.specs.Room.{roomOf, rowIn};
 ghost use Rattle.syntax.specs.IndexPart.{readIndices};
 ghost use Rattle.line.specs.Meaning.{bearerOf, getOf, inRoom, indexed, ofShape, putOf, setOf};
-ghost use Rattle.line.specs.Meaning.Reading.{Holds, KnownBearer, Seated, aim};
+ghost use Rattle.line.specs.Meaning.Reading.{Holds, KnownBearer, Seated, missing, soughtIn};
 ghost use Rattle.syntax.specs.Shape as syntax;
 ghost use Rattle.syntax.specs.Value.{readValue};
 
-// Why the line is malformed and where, a code that it is answered with, a parameter to tell, or a parameter and the value it is set to.
+// Why the line is malformed and where, a code that it is answered with, a part of a parameter to tell, or a parameter and the value it is set to.
 pub enum Meaning {
     Malformed(Cause, usize),
     Code(u8),
-    Get(Parameter),
+    Get(Parameter, Part),
     Put(Parameter, i64),
 }
 
-// The parameter that a label and an index part name, or the code 1 or 2.
-enum Target {
-    At(Parameter),
-    Code(u8),
-}
-
-// The parameter of a module that an index part names.
-fn indexed(rows: &[[i32; 8]; 50], m: Module, part: &[u8]) -> ParameterFound
+// What an index part names in a module.
+fn indexed(rows: &[[i32; 8]; 50], m: Module, part: &[u8]) -> ControlFound
     requires { ⌜ (now rows ≡ numbers) × (knownLayout (m .layout) ≡ true) ⌝ }
     ensures { λ r. ⌜ r ≡ indexed m (readIndices (now (part .entry))) ⌝ }
 {
     match read_indices(part) {
-        IndexPart::Right(indices) => named(rows, m, indices),
-        IndexPart::Wrong => ParameterFound::Nothing,
+        IndexPart::Right(groups) => named(rows, m, groups),
+        IndexPart::Wrong => ControlFound::Nothing,
     }
 }
 
-// The parameter that the bearer of a label and an index part name; the label comes first.
-fn target_of(rows: &[[i32; 8]; 50], bearer: Bearer, part: &[u8]) -> Target
+// What the bearer of a label and an index part name.
+fn sought_in(rows: &[[i32; 8]; 50], bearer: Bearer, part: &[u8]) -> ControlFound
     requires { ⌜ (now rows ≡ numbers) × KnownBearer bearer ⌝ }
-    ensures { λ r. ⌜ aim r ≡ inRoom bearer (readIndices (now (part .entry))) ⌝ }
+    ensures { λ r. ⌜ r ≡ soughtIn bearer (readIndices (now (part .entry))) ⌝ }
 {
     match bearer {
-        Bearer::Only(m) => match indexed(rows, m, part) {
-            ParameterFound::At(p) => Target::At(p),
-            ParameterFound::Nothing => Target::Code(2),
-        },
-        Bearer::NotOne => Target::Code(1),
+        Bearer::Only(m) => indexed(rows, m, part),
+        Bearer::NotOne => ControlFound::Nothing,
     }
 }
 
-// The value that a text puts to a parameter, or the code 3. Only the contract needs the table: it says in which room the value is judged.
-fn put_meaning(table: &[u8], values: &[i64], p: Parameter, text: &[u8]) -> Meaning
-    requires { ⌜ Holds (roomOf (now table)) (now values) p ⌝ }
-    ensures { λ r. ⌜ r ≡ putOf p (readValue (rowIn (roomOf (now (table .entry))) p) (getD (now (values .entry)) (place p) (pos 0)) (now (text .entry))) ⌝ }
+// The code where nothing is named; the label comes first.
+fn missing(bearer: Bearer) -> u8
+    ensures { λ r. ⌜ r ≡ missing bearer ⌝ }
+{
+    match bearer {
+        Bearer::Only(_) => 2,
+        Bearer::NotOne => 1,
+    }
+}
+
+// The value that a text puts to a parameter, by the part that is named, or the code 3. Only the contract needs the table: it says in which room the value is judged.
+fn put_meaning(table: &[u8], values: &[i64], p: Parameter, named: Part, text: &[u8]) -> Meaning
+    requires { ⌜ Holds (roomOf (now table)) (now values) p named ⌝ }
+    ensures { λ r. ⌜ r ≡ putOf p (readValue (rowIn (roomOf (now (table .entry))) p) named (getD (now (values .entry)) (place p) (pos 0)) (now (text .entry))) ⌝ }
 {
     let place = p.owner.first + p.number;
     let present = values[place];
-    match read_value(p.row, present, text) {
+    match read_value(p.row, named, present, text) {
         ValueText::Value(x) => Meaning::Put(p, x),
         ValueText::Wrong => Meaning::Code(3),
     }
@@ -85,9 +87,9 @@ fn get_line(rows: &[[i32; 8]; 50], line: &[u8], bearer: Bearer, close: usize) ->
     requires { ⌜ (now rows ≡ numbers) × KnownBearer bearer × (close < length (now line)) ⌝ }
     ensures { λ r. ⌜ r ≡ getOf (inRoom bearer (readIndices (part (now (line .entry)) (close + 1) (length (now (line .entry)))))) ⌝ }
 {
-    match target_of(rows, bearer, &line[close + 1..]) {
-        Target::At(p) => Meaning::Get(p),
-        Target::Code(n) => Meaning::Code(n),
+    match sought_in(rows, bearer, &line[close + 1..]) {
+        ControlFound::At(p, named) => Meaning::Get(p, named),
+        ControlFound::Nothing => Meaning::Code(missing(bearer)),
     }
 }
 
@@ -105,9 +107,9 @@ fn set_line(
     requires { ⌜ (close < equal) × (equal < length (now line)) ⌝ }
     ensures { λ r. ⌜ r ≡ setOf (roomOf (now (table .entry))) (now (values .entry)) (part (now (line .entry)) (equal + 1) (length (now (line .entry)))) (inRoom bearer (readIndices (part (now (line .entry)) (close + 1) equal))) ⌝ }
 {
-    match target_of(rows, bearer, &line[close + 1..equal]) {
-        Target::At(p) => put_meaning(table, values, p, &line[equal + 1..]),
-        Target::Code(n) => Meaning::Code(n),
+    match sought_in(rows, bearer, &line[close + 1..equal]) {
+        ControlFound::At(p, named) => put_meaning(table, values, p, named, &line[equal + 1..]),
+        ControlFound::Nothing => Meaning::Code(missing(bearer)),
     }
 }
 

@@ -11,7 +11,7 @@ use libc::STDOUT_FILENO;
 use room::table::is_sound;
 
 // How many bytes a table may have.
-const TABLE: usize = 2112;
+const TABLE: usize = 2240;
 
 fn refuse() {
     io::write_all(STDOUT_FILENO, b"refused 1\r");

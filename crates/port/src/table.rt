@@ -4,10 +4,10 @@ ghost use Prim.Native.Nat.{_≤_};
 ghost use lib.ListN.{length, replicate};
 
 // Room for the longest table and one byte more, by which a longer one is seen.
-pub(crate) fn table_buffer() -> [u8; 2113]
-    ensures { λ r. ⌜ r ≡ replicate 2113 0 ⌝ }
+pub(crate) fn table_buffer() -> [u8; 2241]
+    ensures { λ r. ⌜ r ≡ replicate 2241 0 ⌝ }
 {
-    [0; 2113]
+    [0; 2241]
 }
 
 // Reads until the file ends or the buffer is full, and tells how many bytes came; all of the buffer where a read fails. What a file holds

@@ -1,35 +1,17 @@
-// The body of a record: its length and its soundness, by kind.
-use crate::field::field_sound;
+// The body of a record: its length, by kind.
+use catalogue::is_fixed;
+ghost use mathlib.Core.Bool.{true};
 ghost use mathlib.Core.Path.{_≡_};
 ghost use Rattle.catalogue.specs.Catalogue.{known};
-ghost use Rattle.record.specs.Body.{bodyLength, bodySound};
-
-// Whether a byte is a module type.
-fn is_known(kind: u8) -> bool
-    ensures { λ r. ⌜ r ≡ known kind ⌝ }
-{
-    if kind < 1 {
-        return false;
-    }
-    kind <= 6
-}
+ghost use Rattle.record.specs.Body.{bodyLength};
 
 // How long a kind's body is.
 pub fn body_length(kind: u8) -> usize
+    requires { ⌜ known kind ≡ true ⌝ }
     ensures { λ r. ⌜ r ≡ bodyLength kind ⌝ }
 {
-    32
-}
-
-// Whether a body is sound for its kind.
-pub fn body_sound(kind: u8, body: &[u8]) -> bool
-    ensures { λ r. ⌜ r ≡ bodySound kind (now (body .entry)) ⌝ }
-{
-    if !is_known(kind) {
-        return false;
+    if is_fixed(kind) {
+        return 32;
     }
-    if body.len() != body_length(kind) {
-        return false;
-    }
-    field_sound(&body[..32])
+    34
 }

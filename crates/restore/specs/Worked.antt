@@ -26,9 +26,10 @@ use Rattle.values.specs.Room.{rowIn}
 use Rattle.values.specs.Values.{eachPermitted, valuesSound, valuesNumber, equal}
 use Rattle.spelling.specs.Line.{lineFor}
 use Rattle.spelling.specs.Name.{front, name}
-use Rattle.spelling.specs.IndexText.{indexText}
-use Rattle.spelling.specs.Say.{say}
-use Rattle.spelling.specs.Text.{textOf}
+use Rattle.catalogue.specs.Groups.{groupsOf}
+use Rattle.spelling.specs.IndexText.{groupText, indexText}
+use Rattle.spelling.specs.Say.{say, saidPart}
+use Rattle.spelling.specs.Text.{partText, textOf}
 use Rattle.line.specs.Worked as reading
 use Rattle.line.specs.Worked.{oneByteRecord, tableA, zeros, bytes}
 use Rattle.wish.specs.Target.{wishOf, atMostOne, selectionRight, chosen, chosenPermitted, wantedRight, targetOf, target}
@@ -93,7 +94,7 @@ unfolding shown agrees called lists four wishes ended bytes tableA oneByteRecord
     minus level switch number catalogue known rowsIn rowsOf permitted
     labelByte labelRight isZero fieldSound bodyLength bodySound layoutOf recordsSound recordLimit sound modulesFrom modules
     label same bearersIn exactlyOne bearer numbered parametersOf parametersIn parameters rowIn eachPermitted valuesSound
-    indexText name front lineFor textOf say atMostOne selectionRight chosen chosenPermitted wantedRight targetOf target equal
+    groupsOf groupText indexText name front lineFor textOf partText saidPart say atMostOne selectionRight chosen chosenPermitted wantedRight targetOf target equal
     changesOf changes lineOf listing borneOnce reachable allReachable
     firstRefusal tableNumber valuesNumber selectionNumber wantedNumber reachNumber spaceNumber restoreNumber tell restore
 lists-shown = refl

@@ -52,6 +52,13 @@ fn list_changes(
             if list.len() < bytes {
                 return refused(8);
             }
+            if lines == 0 {
+                return Restored {
+                    bytes: 0,
+                    lines: 0,
+                    number: 0,
+                };
+            }
             write(table, rows, present, selection, wanted, list);
             Restored {
                 bytes,

@@ -1,5 +1,6 @@
 -- Measuring the restore list: its bytes and lines, or that a wanted change is beyond reach.
 pub mod Label
+pub mod Listed
 pub mod OneModule
 pub mod Part
 pub mod RowWalk

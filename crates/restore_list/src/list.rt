@@ -1,5 +1,7 @@
 // Writing the restore list: the lines one behind the other, each into what is left of the buffer.
+use crate::listed_writing::write_listed;
 use crate::module_writing::write_rows;
+use catalogue::is_fixed;
 use catalogue::row_count;
 use record::body::body_length;
 use record::layout::layout_at;
@@ -13,7 +15,7 @@ ghost use Rattle.text.specs.Written.{Wrote};
 ghost use Rattle.wish.specs.Listing.{listing};
 ghost use Rattle.restore_list.specs.Measuring.{Matching, Standing, allChanges, moduleChanges};
 
-// The lines of a module, where it is chosen.
+// The lines of a module, where it is chosen: most modules are no mixers, and their lines say whole values.
 fn write_module(
     table: &[u8],
     rows: &[[i32; 8]; 50],
@@ -34,7 +36,20 @@ fn write_module(
     }
     let size = label_length(table, m.place);
     let first = m.first;
-    let end = first + row_count(m.layout);
+    let layout = m.layout;
+    let end = first + row_count(layout);
+    if is_fixed(layout.kind) {
+        return write_listed(
+            table,
+            rows,
+            m,
+            size,
+            &present[first..end],
+            &wanted[first..end],
+            list,
+            at,
+        );
+    }
     write_rows(
         table,
         rows,

@@ -1,7 +1,9 @@
 // How long the restore list is, and whether every wanted change is within reach.
+use crate::listed_measuring::listed_lines;
 use crate::module_measuring::Measured;
 use crate::module_measuring::borne_once;
 use crate::module_measuring::row_lines;
+use catalogue::is_fixed;
 use catalogue::row_count;
 use record::body::body_length;
 use record::layout::layout_at;
@@ -28,7 +30,18 @@ fn module_lines(
     ensures { λ r. ⌜ Settles (now (table .entry)) (rowChanges m (valuesOf m (now (present .entry))) (valuesOf m (now (wanted .entry)))) r ⌝ }
 {
     let first = m.first;
-    let end = first + row_count(m.layout);
+    let layout = m.layout;
+    let end = first + row_count(layout);
+    if is_fixed(layout.kind) {
+        return listed_lines(
+            table,
+            rows,
+            m,
+            size,
+            &present[first..end],
+            &wanted[first..end],
+        );
+    }
     row_lines(
         table,
         rows,

@@ -3,6 +3,7 @@ pub mod Checked
 pub mod Modules
 pub mod Number
 pub mod Reached
+pub mod Short
 pub mod Walk
 use mathlib.Core.Bool.{Bool, true, false, cond, _&&_}
 use mathlib.Core.List.{List, [], _∷_}

@@ -43,17 +43,14 @@ pub fn find_bearer(table: &[u8], text: &[u8]) -> Bearer
         if table.len() <= place {
             break found;
         }
-        let layout = layout_at(table, place);
-        let here = Module {
-            number,
-            place,
-            layout,
-            first,
-        };
+        let own = number;
+        let here = place;
+        let before = first;
         let label = place + 1;
+        let layout = layout_at(table, here);
         number += 1;
-        place = label + body_length(layout.kind);
         first += row_count(layout);
+        place = label + body_length(layout.kind);
         // From the end on: the labels of a room are more alike at their beginnings.
         let mut i = text.len();
         while 0 < i {
@@ -69,6 +66,11 @@ pub fn find_bearer(table: &[u8], text: &[u8]) -> Bearer
         if let Bearer::Only(_) = found {
             break Bearer::NotOne;
         }
-        found = Bearer::Only(here);
+        found = Bearer::Only(Module {
+            number: own,
+            place: here,
+            layout,
+            first: before,
+        });
     }
 }

@@ -1,8 +1,8 @@
 // The module table.
 use catalogue::layout::Layout;
 use catalogue::row_count;
+use record::begun::sound_length;
 use record::body::body_length;
-use record::body::body_sound;
 use record::layout::layout_at;
 ghost use mathlib.Core.Bool.{true};
 ghost use mathlib.Core.Path.{_≡_};
@@ -37,11 +37,8 @@ pub fn is_sound(table: &[u8]) -> bool
         }
         let kind = table[place];
         let body = place + 1;
-        let size = body_length(kind);
-        if table.len() - body < size {
-            return false;
-        }
-        if !body_sound(kind, &table[body..body + size]) {
+        let size = sound_length(kind, &table[body..]);
+        if size == 0 {
             return false;
         }
         place = body + size;
@@ -69,8 +66,8 @@ pub fn module_at(table: &[u8], number: usize) -> ModuleFound
     let mut place = 0;
     let mut first = 0;
     while place < table.len() {
-        let layout = layout_at(table, place);
         if at == number {
+            let layout = layout_at(table, place);
             return ModuleFound::At(Module {
                 number,
                 place,
@@ -79,8 +76,8 @@ pub fn module_at(table: &[u8], number: usize) -> ModuleFound
             });
         }
         at += 1;
-        place = place + 1 + body_length(layout.kind);
-        first += row_count(layout);
+        first += row_count(layout_at(table, place));
+        place = place + 1 + body_length(table[place]);
     }
     ModuleFound::Nothing
 }

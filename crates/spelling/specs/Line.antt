@@ -4,10 +4,11 @@ pub mod Writing
 use mathlib.Core.List.{List, _++_}
 use Prim.Native.Nat.{ℕ}
 use lib.IntN.{ℤ}
+use Rattle.catalogue.specs.declared.groups.Part.{Part}
 use Rattle.values.specs.declared.parameter.Parameter.{Parameter}
 use Rattle.spelling.specs.Name.{front}
-use Rattle.spelling.specs.Text.{textOf}
+use Rattle.spelling.specs.Text.{partText}
 
--- the line, without its 0D, that says the value v of the parameter p; its verb by the first byte, `S` or `G`
-unfoldable pub lineFor : (verb : ℕ) → List ℕ → Parameter → ℤ → List ℕ
-lineFor verb t p v = front verb t p ++ textOf (p .row .kind) v
+-- the line, without its 0D, that says of the value v of the parameter p the part; its verb by the first byte, `S` or `G`
+unfoldable pub lineFor : (verb : ℕ) → List ℕ → Parameter → Part → ℤ → List ℕ
+lineFor verb t p part v = front verb t p part ++ partText (p .row .kind) part v

@@ -1,4 +1,4 @@
--- The index part: a `>` with one to three digits, once or twice.
+-- The index part: a `>` with a group, once or twice.
 pub mod Laws
 pub mod Reading
 use mathlib.Core.Bool.{cond}
@@ -6,28 +6,28 @@ use mathlib.Core.List.{List, [], _∷_}
 use Prim.Native.Nat.{ℕ}
 use lib.Dec.{eqb}
 use Rattle.text.specs.Cut.{has, before, after}
-use Rattle.text.specs.Number.{readNumber}
-use Rattle.text.specs.declared.number.Number.{Number}
-use Rattle.text.specs.declared.number.Number.the-variants as read
-use Rattle.catalogue.specs.declared.row.Indices.the-variants.{OneGroup, TwoGroups}
+use Rattle.catalogue.specs.declared.groups.Groups.the-variants.{OneGroup, TwoGroups}
+use Rattle.syntax.specs.IndexGroup.{readGroup}
+use Rattle.syntax.specs.declared.index_group.GroupText.{GroupText}
+use Rattle.syntax.specs.declared.index_group.GroupText.the-variants as group
 use Rattle.syntax.specs.declared.index_part.IndexPart.{IndexPart}
 use Rattle.syntax.specs.declared.index_part.IndexPart.the-variants.{Right, Wrong}
 
--- one group's number
-unfoldable pub oneGroup : Number → IndexPart
-oneGroup (read.Value a) = Right (OneGroup a)
-oneGroup read.Wrong = Wrong
+-- one group
+unfoldable pub oneGroup : GroupText → IndexPart
+oneGroup (group.Right g) = Right (OneGroup g)
+oneGroup group.Wrong = Wrong
 
--- two groups' numbers
-unfoldable pub twoGroups : Number → Number → IndexPart
-twoGroups (read.Value a) (read.Value b) = Right (TwoGroups a b)
-twoGroups (read.Value a) read.Wrong = Wrong
-twoGroups read.Wrong (read.Value b) = Wrong
-twoGroups read.Wrong read.Wrong = Wrong
+-- two groups
+unfoldable pub twoGroups : GroupText → GroupText → IndexPart
+twoGroups (group.Right g) (group.Right h) = Right (TwoGroups g h)
+twoGroups (group.Right g) group.Wrong = Wrong
+twoGroups group.Wrong (group.Right h) = Wrong
+twoGroups group.Wrong group.Wrong = Wrong
 
--- what follows the first `>`: digits alone, or digits, `>` and digits
+-- what follows the first `>`: a group alone, or a group, `>` and a group
 unfoldable pub groups : List ℕ → IndexPart
-groups s = cond (has 0x3E s) (twoGroups (readNumber 3 (before 0x3E s)) (readNumber 3 (after 0x3E s))) (oneGroup (readNumber 3 s))
+groups s = cond (has 0x3E s) (twoGroups (readGroup (before 0x3E s)) (readGroup (after 0x3E s))) (oneGroup (readGroup s))
 
 unfoldable pub readIndices : List ℕ → IndexPart
 readIndices [] = Wrong

@@ -1,37 +1,51 @@
 // The index part of a line.
-use catalogue::row::Indices;
+use crate::index_group::GroupText;
+use crate::index_group::read_group;
+use crate::index_group::read_pair;
+use catalogue::groups::Group;
+use catalogue::groups::Groups;
 use text::cut::find;
 use text::number::Number;
 use text::number::read_number;
 ghost use mathlib.Core.Path.{_≡_};
-ghost use Rattle.text.specs.Number.{readNumber};
+ghost use Rattle.syntax.specs.IndexGroup.{readGroup, readPair};
 ghost use Rattle.syntax.specs.IndexPart.{groups, oneGroup, readIndices, twoGroups};
 
 pub enum IndexPart {
-    Right(Indices),
+    Right(Groups),
     Wrong,
 }
 
-// One group.
+// One group that is no number.
+fn read_one_pair(s: &[u8]) -> IndexPart
+    ensures { λ r. ⌜ r ≡ oneGroup (readPair (now (s .entry))) ⌝ }
+{
+    match read_pair(s) {
+        GroupText::Right(g) => IndexPart::Right(Groups::OneGroup(g)),
+        GroupText::Wrong => IndexPart::Wrong,
+    }
+}
+
+// One group: most lines name a parameter by one number.
 fn read_one(s: &[u8]) -> IndexPart
-    ensures { λ r. ⌜ r ≡ oneGroup (readNumber 3 (now (s .entry))) ⌝ }
+    ensures { λ r. ⌜ r ≡ oneGroup (readGroup (now (s .entry))) ⌝ }
 {
     match read_number(s, 3) {
-        Number::Value(a) => IndexPart::Right(Indices::OneGroup(a)),
-        Number::Wrong => IndexPart::Wrong,
+        Number::Value(a) => IndexPart::Right(Groups::OneGroup(Group::Single(a))),
+        Number::Wrong => read_one_pair(s),
     }
 }
 
 // Two groups.
 fn read_two(first: &[u8], second: &[u8]) -> IndexPart
-    ensures { λ r. ⌜ r ≡ twoGroups (readNumber 3 (now (first .entry))) (readNumber 3 (now (second .entry))) ⌝ }
+    ensures { λ r. ⌜ r ≡ twoGroups (readGroup (now (first .entry))) (readGroup (now (second .entry))) ⌝ }
 {
-    match read_number(first, 3) {
-        Number::Value(a) => match read_number(second, 3) {
-            Number::Value(b) => IndexPart::Right(Indices::TwoGroups(a, b)),
-            Number::Wrong => IndexPart::Wrong,
+    match read_group(first) {
+        GroupText::Right(g) => match read_group(second) {
+            GroupText::Right(h) => IndexPart::Right(Groups::TwoGroups(g, h)),
+            GroupText::Wrong => IndexPart::Wrong,
         },
-        Number::Wrong => IndexPart::Wrong,
+        GroupText::Wrong => IndexPart::Wrong,
     }
 }
 
@@ -46,7 +60,7 @@ fn read_groups(s: &[u8]) -> IndexPart
     read_one(s)
 }
 
-// The indices that an index part says: a `>` with one to three digits, once or twice.
+// The index groups that an index part says: a `>` with a group, once or twice.
 pub fn read_indices(part: &[u8]) -> IndexPart
     ensures { λ r. ⌜ r ≡ readIndices (now (part .entry)) ⌝ }
 {

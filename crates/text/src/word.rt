@@ -24,7 +24,8 @@ pub fn bit_of(output: u64, word: u64) -> u64
 }
 
 // The bit of an output alone.
-fn place_of(output: u64) -> u64
+pub fn place_of(output: u64) -> u64
+    requires { ⌜ 1 ≤ output ⌝ }
     requires { ⌜ output ≤ 32 ⌝ }
     ensures { λ r. ⌜ r ≡ 2 ^ (32 - output) ⌝ }
 {

@@ -1,4 +1,5 @@
 -- The value list of a room: which parameter each value is of, and which lists are right.
+pub mod Control
 pub mod Parameters
 pub mod Permit
 pub mod Room

@@ -3,6 +3,7 @@ pub mod Each
 pub mod Elements
 pub mod First
 pub mod Laws
+pub mod Mixer
 pub mod Named
 pub mod Owned
 pub mod Places
@@ -48,10 +49,7 @@ parameterAt [] k = Nothing
 parameterAt (p ∷ ps) zero = At p
 parameterAt (p ∷ ps) (suc k) = parameterAt ps k
 
+-- the parameter of a list whose row has the indices i
 unfoldable pub withIndices : Indices → List Parameter → ParameterFound
 withIndices i [] = Nothing
 withIndices i (p ∷ ps) = cond (sameIndices (p .row .indices) i) (At p) (withIndices i ps)
-
--- the parameter of the module m whose row has the indices i
-unfoldable pub named : Module → Indices → ParameterFound
-named m i = withIndices i (parametersOf m)

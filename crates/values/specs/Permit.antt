@@ -1,4 +1,5 @@
 -- Which values the rows of a module permit.
+pub mod Mixed
 pub mod Testing
 use mathlib.Core.Bool.{Bool, true, _&&_}
 use mathlib.Core.List.{List, [], _∷_}

@@ -1,4 +1,6 @@
 // The value list of a room: which parameter each value is of, and which lists are right.
+pub mod control;
+pub mod mixer_values;
 pub mod module_values;
 pub mod parameter;
 pub mod starts;

@@ -1,17 +1,18 @@
 // Parameters: the rows of the modules.
 use catalogue::lent_row::row_of;
+use catalogue::mixer::mixer_number;
+use catalogue::mixer::mixer_row;
 use catalogue::row::Indices;
 use catalogue::row::Row;
-use catalogue::row::same_indices;
 use catalogue::row_count;
 use record::body::body_length;
 use record::layout::layout_at;
 use room::table::Module;
-ghost use mathlib.Core.Bool.{true};
+ghost use mathlib.Core.Bool.{false, true};
 ghost use mathlib.Core.Path.{_≡_};
 ghost use lib.ListN.{length};
-ghost use Rattle.catalogue.specs.Catalogue.{knownLayout, numbers};
-ghost use Rattle.values.specs.Parameters.{named, parameterAt, parameters};
+ghost use Rattle.catalogue.specs.Catalogue.{fixed, knownLayout, numbers};
+ghost use Rattle.values.specs.Parameters.{parameterAt, parameters, parametersOf, withIndices};
 ghost use Rattle.room.specs.Table.{sound};
 
 // A parameter: its module, the number of its row in the module, and the row.
@@ -26,25 +27,22 @@ pub enum ParameterFound {
     Nothing,
 }
 
-// The parameter of a module whose row has the indices.
-pub fn named(rows: &[[i32; 8]; 50], m: Module, indices: Indices) -> ParameterFound
-    requires { ⌜ (now rows ≡ numbers) × (knownLayout (m .layout) ≡ true) ⌝ }
-    ensures { λ r. ⌜ r ≡ named m indices ⌝ }
+// The parameter of a mixer whose row has the indices: its number is computed.
+pub(crate) fn mixer_parameter(m: Module, indices: Indices) -> ParameterFound
+    requires { ⌜ (knownLayout (m .layout) ≡ true) × (fixed (m .layout .kind) ≡ false) ⌝ }
+    ensures { λ r. ⌜ r ≡ withIndices indices (parametersOf m) ⌝ }
 {
     let layout = m.layout;
-    let count = row_count(layout);
-    let mut j = 0;
-    while j < count {
-        let row = row_of(rows, layout, j);
-        let have = row.indices;
-        if same_indices(have, indices) {
-            return ParameterFound::At(Parameter {
-                owner: m,
-                number: j,
-                row,
-            });
-        }
-        j += 1;
+    let inputs = layout.inputs as u64;
+    let outputs = layout.outputs as u64;
+    let number = mixer_number(inputs, outputs, indices);
+    if number < 3 * inputs + 2 * outputs {
+        let row = mixer_row(inputs, outputs, number);
+        return ParameterFound::At(Parameter {
+            owner: m,
+            number: number as usize,
+            row,
+        });
     }
     ParameterFound::Nothing
 }

@@ -1,10 +1,12 @@
 // The chosen modules and their wanted values, and the restore list as a definition.
 
+use catalogue::is_fixed;
 use catalogue::layout::Layout;
 use catalogue::row_count;
 use record::body::body_length;
 use record::layout::layout_at;
-use values::module_values::module_fits;
+use values::mixer_values::mixer_fits;
+use values::module_values::listed_fits;
 ghost use mathlib.Core.Bool.{not, true, _||_};
 ghost use mathlib.Core.Path.{_≡_};
 ghost use lib.Dec.{eqb};
@@ -44,7 +46,10 @@ fn module_right(rows: &[[i32; 8]; 50], selected: u8, layout: Layout, wanted: &[i
     if selected != 1 {
         return true;
     }
-    module_fits(rows, layout, wanted)
+    if is_fixed(layout.kind) {
+        return listed_fits(rows, layout, wanted);
+    }
+    mixer_fits(layout.inputs as u64, layout.outputs as u64, wanted)
 }
 
 // Whether the wanted list has one entry for each parameter, and each chosen module's entry is permitted.

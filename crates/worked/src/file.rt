@@ -4,10 +4,10 @@ ghost use lib.ListN.{length};
 ghost use Rattle.io.specs.Counts.{Counts};
 
 // Room for the longest table.
-pub(crate) fn table_buffer() -> [u8; 2112]
-    ensures { λ r. ⌜ 2112 ≡ length r ⌝ }
+pub(crate) fn table_buffer() -> [u8; 2240]
+    ensures { λ r. ⌜ 2240 ≡ length r ⌝ }
 {
-    [0; 2112]
+    [0; 2240]
 }
 
 // Reads a file into the buffer, and tells how many bytes came: none where there is no such file.

@@ -24,9 +24,16 @@ pub struct Case {
 
 enum Work {
     Table,
-    Port { given: Vec<u8> },
-    Restore { selection: Vec<u8> },
-    Log { line: Vec<u8> },
+    Port {
+        given: Vec<u8>,
+    },
+    Restore {
+        selection: Vec<u8>,
+        wanted: Vec<i64>,
+    },
+    Log {
+        line: Vec<u8>,
+    },
 }
 
 enum Expected {
@@ -45,57 +52,58 @@ fn of_room(room: Room) -> Vec<Case> {
     let line = |verb: &str, label: &[u8], rest: String| {
         [verb.as_bytes(), b"\"", label, b"\"", rest.as_bytes()].concat()
     };
-    let (index, text) = (room.index, room.text);
-    let set = line("SA", &room.label, format!("{index}={text}\r"));
+    let port = |given: Vec<u8>, reply| (Work::Port { given }, Expected::Reply(reply));
+    let mut works = vec![("table".to_string(), (Work::Table, Expected::Nothing))];
+    for ask in room.asks {
+        let (name, index, text) = (ask.name, ask.index, ask.text);
+        let set = line("SA", &room.label, format!("{index}={text}\r"));
+        let get = line("GA", &room.label, format!("{index}\r"));
+        works.push((format!("port-set{name}"), port(set, b"\x06\r")));
+        works.push((format!("port-get{name}"), port(get, b"GA\"")));
+    }
+    let index = room.asks[0].index;
     let get = line("GA", &room.label, format!("{index}\r"));
     let unknown = line("GA", b"Nowhere", format!("{index}\r"));
     let part = get[..get.len() - 2].to_vec();
+    works.push(("port-unknown".to_string(), port(unknown, b"\x1501\r")));
+    works.push(("port-part".to_string(), port(part, b"")));
     let mut one = vec![0; room.modules];
     one[0] = 1;
     let none = vec![0; room.modules];
     let all = vec![1; room.modules];
-    let changes = |selection: &[u8]| {
-        let first = room.table[0];
-        let count = match selection.iter().filter(|&&byte| byte == 1).count() {
-            0 => 0,
-            1 => reference::catalogue::rows(first).len(),
-            _ => room.values.len(),
-        };
-        let pairs = room.values.iter().zip(&room.wanted).take(count);
-        pairs.filter(|(present, wanted)| present != wanted).count() as u64
+    let mut restore = |name: &str, selection: &[u8], wanted: &[i64], judged: usize| {
+        let pairs = room.values.iter().zip(wanted).take(judged);
+        let lines = pairs.filter(|(present, wanted)| present != wanted).count();
+        let (selection, wanted) = (selection.to_vec(), wanted.to_vec());
+        let work = Work::Restore { selection, wanted };
+        works.push((name.to_string(), (work, Expected::Lines(lines as u64))));
     };
-    let restore = |selection: &Vec<u8>| {
-        let expected = Expected::Lines(changes(selection));
-        let selection = selection.clone();
-        (Work::Restore { selection }, expected)
-    };
-    let port = |given: Vec<u8>, reply| (Work::Port { given }, Expected::Reply(reply));
-    [
-        ("table", (Work::Table, Expected::Nothing)),
-        ("port-set", port(set, b"\x06\r")),
-        ("port-get", port(get.clone(), b"GA\"")),
-        ("port-unknown", port(unknown, b"\x1501\r")),
-        ("port-part", port(part, b"")),
-        ("restore-none", restore(&none)),
-        ("restore-one", restore(&one)),
-        ("restore-all", restore(&all)),
-        ("log", (Work::Log { line: get }, Expected::InTable(1))),
-    ]
-    .into_iter()
-    .map(|(call, (work, expected))| Case {
-        name: format!("{call}/{}", room.name),
-        room: Rc::clone(&room),
-        work,
-        values: room.values.clone(),
-        port: [0; 66],
-        reply: [0; 64],
-        list: vec![0; room.values.len() * 51],
-        fed: [0; 4],
-        listed: [0; 2],
-        part: [0; 3],
-        expected,
-    })
-    .collect()
+    restore("restore-none", &none, &room.wanted, 0);
+    restore("restore-one", &one, &room.wanted, room.first);
+    if let Some(few) = &room.few {
+        restore("restore-few", &all, few, few.len());
+    }
+    restore("restore-all", &all, &room.wanted, room.values.len());
+    works.push((
+        "log".to_string(),
+        (Work::Log { line: get }, Expected::InTable(1)),
+    ));
+    works
+        .into_iter()
+        .map(|(call, (work, expected))| Case {
+            name: format!("{call}/{}", room.name),
+            room: Rc::clone(&room),
+            work,
+            values: room.values.clone(),
+            port: [0; 66],
+            reply: [0; 64],
+            list: vec![0; room.values.len() * 51],
+            fed: [0; 4],
+            listed: [0; 2],
+            part: [0; 3],
+            expected,
+        })
+        .collect()
 }
 
 impl Case {
@@ -115,11 +123,11 @@ impl Case {
                     &mut self.fed,
                 )
             }
-            Work::Restore { selection } => (calls.restore)(
+            Work::Restore { selection, wanted } => (calls.restore)(
                 &room.table,
                 &room.values,
                 selection,
-                &room.wanted,
+                wanted,
                 &mut self.list,
                 &mut self.listed,
             ),

@@ -14,8 +14,8 @@ pub const MISTAKES: &[Mistake] = &[
         "code_order",
         "the index part is read before the label",
         "line.rs",
-        "    let module = table.bearer(parts.label).ok_or(LABEL)?;\n    let index = read_index(parts.index).ok_or(INDEX)?;",
-        "    let index = read_index(parts.index).ok_or(INDEX)?;\n    let module = table.bearer(parts.label).ok_or(LABEL)?;",
+        "    let module = table.bearer(parts.label).ok_or(LABEL)?;\n    let groups = read_groups(parts.index).ok_or(INDEX)?;",
+        "    let groups = read_groups(parts.index).ok_or(INDEX)?;\n    let module = table.bearer(parts.label).ok_or(LABEL)?;",
     ),
     (
         "verb_case",
@@ -41,7 +41,7 @@ pub const MISTAKES: &[Mistake] = &[
     (
         "missing_index",
         "a missing second index is read as 0",
-        "line.rs",
+        "layout.rs",
         "row.index == index",
         "(row.index.0, row.index.1.unwrap_or(0)) == (index.0, index.1.unwrap_or(0))",
     ),
@@ -84,15 +84,15 @@ pub const MISTAKES: &[Mistake] = &[
         "toggle",
         "T turns on and never off",
         "text.rs",
-        "b\"T\" => 1 - present",
-        "b\"T\" => 1",
+        "b\"T\" => Some(!present)",
+        "b\"T\" => Some(true)",
     ),
     (
         "small_o",
         "a small o is on",
         "text.rs",
-        "b\"O\" => 1",
-        "b\"O\" | b\"o\" => 1",
+        "b\"O\" => Some(true)",
+        "b\"O\" | b\"o\" => Some(true)",
     ),
     (
         "rounded",
@@ -104,9 +104,9 @@ pub const MISTAKES: &[Mistake] = &[
     (
         "reply_text",
         "a reply has levels with .0",
-        "text.rs",
-        "    write_value(sink, row.kind, value);",
-        "    write_value(sink, row.kind, value);\n    if verb == b\"GA\" && row.kind == Kind::Level && value % 10 == 0 {\n        sink.put(b\".0\");\n    }",
+        "control.rs",
+        "    sink.put(b\"\\r\");",
+        "    if verb == b\"GA\" && self.row.kind == Kind::Level && value % 10 == 0 {\n        sink.put(b\".0\");\n    }\n    sink.put(b\"\\r\");",
     ),
     (
         "written_sign",
@@ -119,7 +119,7 @@ pub const MISTAKES: &[Mistake] = &[
         "set_forgotten",
         "an acknowledged line sets nothing",
         "line.rs",
-        "*value = read_value(row, text, *value).ok_or(VALUE)?;",
-        "read_value(row, text, *value).ok_or(VALUE)?;",
+        "*value = control.read(text, *value).ok_or(VALUE)?;",
+        "control.read(text, *value).ok_or(VALUE)?;",
     ),
 ];

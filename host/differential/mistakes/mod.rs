@@ -3,8 +3,10 @@
 mod fault;
 mod line;
 mod log;
+mod mixer;
 mod port;
 mod restore;
+mod route;
 mod table;
 mod values;
 
@@ -19,7 +21,7 @@ pub type Mistake = (
 );
 
 /// All of them, part by part.
-pub const MISTAKES: [&[Mistake]; 7] = [
+pub const MISTAKES: [&[Mistake]; 9] = [
     values::MISTAKES,
     table::MISTAKES,
     line::MISTAKES,
@@ -27,4 +29,6 @@ pub const MISTAKES: [&[Mistake]; 7] = [
     port::MISTAKES,
     restore::MISTAKES,
     log::MISTAKES,
+    mixer::MISTAKES,
+    route::MISTAKES,
 ];

@@ -21,15 +21,15 @@ pub const MISTAKES: &[Mistake] = &[
         "read_only_skipped",
         "a change of a read-only row is no 7",
         "restore.rs",
-        "changes.any(|(row, _)| !row.settable) || ",
+        "read_only || ",
         "",
     ),
     (
         "shared_written",
         "a change of a shared label is no 7",
         "restore.rs",
-        "(any && self.table.bearer(module.label).is_none())",
-        "(any && module.label.is_empty())",
+        "(any && self.table.bearer(module.label()).is_none())",
+        "(any && module.label().is_empty())",
     ),
     (
         "shared_unchanged",
@@ -48,9 +48,9 @@ pub const MISTAKES: &[Mistake] = &[
     (
         "long_level",
         "a list has levels with .0",
-        "text.rs",
-        "    write_value(sink, row.kind, value);",
-        "    write_value(sink, row.kind, value);\n    if verb == b\"SA\" && row.kind == Kind::Level && value % 10 == 0 {\n        sink.put(b\".0\");\n    }",
+        "control.rs",
+        "    sink.put(b\"\\r\");",
+        "    if verb == b\"SA\" && self.row.kind == Kind::Level && value % 10 == 0 {\n        sink.put(b\".0\");\n    }\n    sink.put(b\"\\r\");",
     ),
     (
         "count_lines",
@@ -62,9 +62,9 @@ pub const MISTAKES: &[Mistake] = &[
     (
         "list_toggle",
         "a list turns switches over with T",
-        "text.rs",
-        "    write_value(sink, row.kind, value);",
-        "    if verb == b\"SA\" && row.kind == Kind::Switch {\n        sink.put(b\"T\");\n    } else {\n        write_value(sink, row.kind, value);\n    }",
+        "restore.rs",
+        "control.write_line(sink, b\"SA\", label, change.wanted);",
+        "if change.row.kind == super::catalogue::Kind::Switch {\n                    let (index1, index2) = change.row.index;\n                    let index2 = index2.map_or(String::new(), |index2| format!(\">{index2}\"));\n                    sink.put(b\"SA\\\"\");\n                    sink.put(label);\n                    sink.put(format!(\"\\\">{index1}{index2}=T\\r\").as_bytes());\n                } else {\n                    control.write_line(sink, b\"SA\", label, change.wanted);\n                }",
     ),
     (
         "part_written",

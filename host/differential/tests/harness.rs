@@ -41,6 +41,8 @@ fn main() {
         ("log", "0 1"),
         ("reply", "ACK GA 01 02 03 99"),
         ("cause", "0 1 2 3 4 5"),
+        ("told", "value word pair"),
+        ("said", "value word pair"),
     ] {
         let row = text.lines().find(|line| line.trim().starts_with(call));
         for answer in answers.split(' ') {

@@ -11,8 +11,8 @@ pub struct Reply {
 }
 
 impl Reply {
-    /// The bytes to send. A get line is answered with the line that a restore
-    /// list has for the value, `GA` for its `SA`: whole decibels have no point.
+    /// The bytes to send. A get line is answered in the form asked, with the
+    /// value as a restore list has it: whole decibels have no point.
     pub fn bytes(&self) -> &[u8] {
         &self.buffer[..self.length]
     }

@@ -1,4 +1,4 @@
-//! The fifty rows of the six module types.
+//! Rows, and the fifty of the six module types whose rows are fixed.
 
 /// What the number of a parameter means.
 #[derive(Clone, Copy, Debug, PartialEq, Eq)]
@@ -9,6 +9,8 @@ pub enum Kind {
     Switch,
     /// A plain whole number.
     Number,
+    /// A mixer's routing word: a bit for each output.
+    Word,
 }
 
 /// Index 1, and index 2 where the row has one.
@@ -28,10 +30,15 @@ pub struct Row {
 impl Row {
     /// Whether a value may stand in this row.
     pub fn permits(&self, value: i64) -> bool {
-        // In range, the distance from low is below 2^32.
-        self.low <= value
-            && value <= self.high
-            && (self.step == 1 || ((value - self.low) as u32).is_multiple_of(self.step))
+        if value < self.low || self.high < value {
+            return false;
+        }
+        match self.kind {
+            // The highest word has the bits of all outputs.
+            Kind::Word => value & !self.high == 0,
+            // In range, the distance from low is below 2^32.
+            _ => self.step == 1 || ((value - self.low) as u32).is_multiple_of(self.step),
+        }
     }
 
     /// The value that a program starts with: 0 if it may, else low.
@@ -44,7 +51,7 @@ impl Row {
     }
 }
 
-/// The rows of a record's kind, none for an unknown one.
+/// The rows of a kind, where they are fixed; else none.
 pub fn rows(kind: u8) -> &'static [Row] {
     match kind {
         1 => &TONE,
@@ -61,11 +68,11 @@ const fn one(index1: u16) -> Index {
     (index1, None)
 }
 
-const fn two(index1: u16, index2: u16) -> Index {
+pub(super) const fn two(index1: u16, index2: u16) -> Index {
     (index1, Some(index2))
 }
 
-const fn row(index: Index, kind: Kind, low: i64, high: i64, step: u32) -> Row {
+pub(super) const fn row(index: Index, kind: Kind, low: i64, high: i64, step: u32) -> Row {
     Row {
         index,
         kind,
@@ -76,7 +83,7 @@ const fn row(index: Index, kind: Kind, low: i64, high: i64, step: u32) -> Row {
     }
 }
 
-const fn switch(index: Index) -> Row {
+pub(super) const fn switch(index: Index) -> Row {
     row(index, Kind::Switch, 0, 1, 1)
 }
 
@@ -88,7 +95,7 @@ const fn tone(index: Index) -> Row {
     row(index, Kind::Level, -150, 150, 1)
 }
 
-const fn fader(index: Index) -> Row {
+pub(super) const fn fader(index: Index) -> Row {
     row(index, Kind::Level, -605, 120, 5)
 }
 

@@ -8,8 +8,11 @@
 #![forbid(unsafe_code)]
 
 pub mod catalogue;
+mod control;
+pub mod layout;
 mod line;
 mod log;
+mod mixer;
 mod port;
 mod restore;
 mod table;

@@ -1,7 +1,8 @@
 //! One finished line: its parts, its reply, and what it sets.
 
+use super::control::Control;
 use super::table::Table;
-use super::text::{read_index, read_value, write_line, Sink, Writer};
+use super::text::{read_groups, Sink, Writer};
 
 /// The two digits of a NAK.
 type Code = [u8; 2];
@@ -72,10 +73,8 @@ pub fn overrun(reply: &mut [u8]) -> (usize, Option<Fault>) {
 fn serve(table: Table, values: &mut [i64], line: &[u8], reply: &mut [u8]) -> Result<usize, Wrong> {
     let parts = parts(line)?;
     let module = table.bearer(parts.label).ok_or(LABEL)?;
-    let index = read_index(parts.index).ok_or(INDEX)?;
-    let mut rows = module.rows.iter();
-    let place = rows.position(|row| row.index == index).ok_or(INDEX)?;
-    let row = &module.rows[place];
+    let groups = read_groups(parts.index).ok_or(INDEX)?;
+    let (place, control) = Control::named(module.layout, groups).ok_or(INDEX)?;
     let value = &mut values[module.start + place];
     let mut writer = Writer {
         buffer: reply,
@@ -83,13 +82,13 @@ fn serve(table: Table, values: &mut [i64], line: &[u8], reply: &mut [u8]) -> Res
     };
     match parts.text {
         Some(text) => {
-            if !row.settable {
+            if !control.row.settable {
                 return Err(VALUE.into());
             }
-            *value = read_value(row, text, *value).ok_or(VALUE)?;
+            *value = control.read(text, *value).ok_or(VALUE)?;
             writer.put(b"\x06\r");
         }
-        None => write_line(&mut writer, b"GA", module.label, row, *value),
+        None => control.write_line(&mut writer, b"GA", module.label(), *value),
     }
     Ok(writer.length)
 }

@@ -27,7 +27,7 @@ pub fn part(table: &[u8], line: &[u8]) -> Part {
         Some(module) => Part {
             in_table: true,
             start: module.label_start,
-            length: module.label.len(),
+            length: module.label().len(),
         },
         None => Part {
             in_table: false,

@@ -1,8 +1,9 @@
 //! The restore list.
 
 use super::catalogue::Row;
-use super::table::{permitted, Module, Table};
-use super::text::{write_line, Count, Sink, Writer};
+use super::control::Control;
+use super::table::{Module, Table};
+use super::text::{Count, Sink, Writer};
 use super::Refusal;
 
 /// Writes the shortest list and tells its bytes and lines.
@@ -68,37 +69,55 @@ impl<'a> Wish<'a> {
 
     /// Whether a module's wanted values are permitted.
     fn permitted(self, module: Module) -> bool {
-        permitted(module.rows, &self.wanted[module.start..])
+        let wanted = &self.wanted[module.start..];
+        module.layout.pass(wanted).is_some()
     }
 
-    /// The rows of a module that differ, each with its wanted value.
-    fn changes(self, module: Module<'a>) -> impl Iterator<Item = (&'static Row, i64)> + 'a {
-        let present = &self.present[module.start..];
-        let wanted = &self.wanted[module.start..];
-        module
-            .rows
-            .iter()
-            .zip(present.iter().zip(wanted))
-            .filter(|(_, (present, wanted))| present != wanted)
-            .map(|(row, (_, &wanted))| (row, wanted))
+    /// The rows of a module that differ.
+    fn changes(self, module: Module) -> impl Iterator<Item = Change> + 'a {
+        let mut start = module.start;
+        module.layout.parts().into_iter().flat_map(move |rows| {
+            let places = start..start + rows.len();
+            start = places.end;
+            let values = self.present[places.clone()]
+                .iter()
+                .zip(&self.wanted[places]);
+            rows.iter()
+                .zip(values)
+                .filter(|(_, (present, wanted))| present != wanted)
+                .map(|(row, (&present, &wanted))| Change {
+                    row,
+                    present,
+                    wanted,
+                })
+        })
     }
 
     /// Whether a change of this module cannot be made by a line.
-    fn beyond_reach(self, module: Module<'a>) -> bool {
-        let mut changes = self.changes(module).peekable();
-        let any = changes.peek().is_some();
-        changes.any(|(row, _)| !row.settable) || (any && self.table.bearer(module.label).is_none())
+    fn beyond_reach(self, module: Module) -> bool {
+        let any = self.changes(module).next().is_some();
+        let read_only = self.changes(module).any(|change| !change.row.settable);
+        read_only || (any && self.table.bearer(module.label()).is_none())
     }
 
     /// Puts down a line for each change, and tells how many.
     fn write(self, sink: &mut impl Sink) -> usize {
         let mut lines = 0;
         for module in self.chosen() {
-            for (row, wanted) in self.changes(module) {
-                write_line(sink, b"SA", module.label, row, wanted);
+            let label = module.label();
+            self.changes(module).for_each(|change| {
+                let control = Control::of_change(change.row, change.present, change.wanted);
+                control.write_line(sink, b"SA", label, change.wanted);
                 lines += 1;
-            }
+            });
         }
         lines
     }
+}
+
+/// A parameter that differs.
+struct Change {
+    row: &'static Row,
+    present: i64,
+    wanted: i64,
 }

@@ -1,6 +1,6 @@
-//! Reading and writing of numbers, value texts and index parts.
+//! Reading of numbers, value texts and index parts; writing of values.
 
-use super::catalogue::{Index, Kind, Row};
+use super::catalogue::{Kind, Row};
 
 /// Something that takes written bytes: a buffer, or a count of them.
 pub trait Sink {
@@ -59,23 +59,53 @@ fn read_level(text: &[u8]) -> Option<i64> {
     Some(if negative { -size } else { size })
 }
 
+/// A routing word: eight hex digits, their letters capital.
+fn read_word(text: &[u8]) -> Option<i64> {
+    if text.len() != 8 {
+        return None;
+    }
+    let mut word = 0;
+    for &byte in text {
+        let digit = match byte {
+            b'0'..=b'9' => byte - b'0',
+            b'A'..=b'F' => byte - b'A' + 10,
+            _ => return None,
+        };
+        word = word * 16 + i64::from(digit);
+    }
+    Some(word)
+}
+
+/// Whether a text turns a switch on or off that is on or off at present.
+pub fn read_switch(text: &[u8], present: bool) -> Option<bool> {
+    match text {
+        b"O" => Some(true),
+        b"F" => Some(false),
+        b"T" => Some(!present),
+        _ => None,
+    }
+}
+
 /// The value that a text gives to a row with this present value.
 pub fn read_value(row: &Row, text: &[u8], present: i64) -> Option<i64> {
     let value = match row.kind {
         Kind::Level => read_level(text)?,
         Kind::Number => i64::from(read_digits(text, 5)?),
-        Kind::Switch => match text {
-            b"O" => 1,
-            b"F" => 0,
-            b"T" => 1 - present,
-            _ => return None,
-        },
+        Kind::Switch => i64::from(read_switch(text, present == 1)?),
+        Kind::Word => read_word(text)?,
     };
     row.permits(value).then_some(value)
 }
 
-/// An index part: one or two groups of `>` and one to three digits.
-pub fn read_index(part: &[u8]) -> Option<Index> {
+/// One group of an index part.
+#[derive(Clone, Copy)]
+pub enum Group {
+    Number(u16),
+    Pair(u16, u16),
+}
+
+/// An index part: one or two groups, each behind a `>`.
+pub fn read_groups(part: &[u8]) -> Option<(Group, Option<Group>)> {
     let (b'>', groups) = part.split_first()? else {
         return None;
     };
@@ -88,12 +118,23 @@ pub fn read_index(part: &[u8]) -> Option<Index> {
     }
 }
 
-fn read_group(digits: &[u8]) -> Option<u16> {
+/// A number, or `(`, a number, `,`, a number, `)`.
+fn read_group(group: &[u8]) -> Option<Group> {
+    if let [b'(', pair @ .., b')'] = group {
+        let comma = pair.iter().position(|&byte| byte == b',')?;
+        let (first, second) = (&pair[..comma], &pair[comma + 1..]);
+        return Some(Group::Pair(read_index(first)?, read_index(second)?));
+    }
+    read_index(group).map(Group::Number)
+}
+
+/// A number of one to three digits.
+fn read_index(digits: &[u8]) -> Option<u16> {
     read_digits(digits, 3).map(|number| number as u16)
 }
 
 /// A number without leading zeros.
-fn write_number(sink: &mut impl Sink, number: u32) {
+pub fn write_number(sink: &mut impl Sink, number: u32) {
     let mut digits = [0; 10];
     let mut first = digits.len();
     let mut rest = number;
@@ -113,6 +154,7 @@ pub fn write_value(sink: &mut impl Sink, kind: Kind, value: i64) {
     match kind {
         Kind::Switch => sink.put(if value == 1 { b"O" } else { b"F" }),
         Kind::Number => write_number(sink, value as u32),
+        Kind::Word => write_word(sink, value),
         Kind::Level => {
             if value < 0 {
                 sink.put(b"-");
@@ -126,18 +168,10 @@ pub fn write_value(sink: &mut impl Sink, kind: Kind, value: i64) {
     }
 }
 
-/// A reply or a set line: verb, label, indices, `=`, value, end.
-pub fn write_line(sink: &mut impl Sink, verb: &[u8; 2], label: &[u8], row: &Row, value: i64) {
-    sink.put(verb);
-    sink.put(b"\"");
-    sink.put(label);
-    sink.put(b"\">");
-    write_number(sink, u32::from(row.index.0));
-    if let Some(index2) = row.index.1 {
-        sink.put(b">");
-        write_number(sink, u32::from(index2));
+/// Eight hex digits.
+fn write_word(sink: &mut impl Sink, word: i64) {
+    for place in (0..8).rev() {
+        let digit = (word >> (4 * place)) & 0xF;
+        sink.put(&[b"0123456789ABCDEF"[digit as usize]]);
     }
-    sink.put(b"=");
-    write_value(sink, row.kind, value);
-    sink.put(b"\r");
 }

@@ -7,10 +7,14 @@
 //! where the wish is fulfilled, 1 where a file is wrong or the core refuses,
 //! 2 for other arguments.
 
+mod given;
 mod lines;
 mod parameter;
+mod refusal;
 mod report;
 mod room_file;
+mod types;
+mod value;
 mod wish_file;
 
 use std::path::Path;

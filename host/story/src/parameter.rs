@@ -1,146 +1,114 @@
-//! Names of types, rows and values in the files and in the story.
+//! Parameters in the files and in the story: `INDEX = VALUE`.
 
 use egrivundo::Type;
-use reference::catalogue::{rows, Index, Kind, Row};
+use reference::catalogue::{Index, Kind};
 
 use crate::lines::Fault;
+use crate::types::{layout, type_name};
+use crate::value::{bit, range, read_value};
 
-/// The type that a file names by word or number.
-pub fn read_type(text: &str, line: usize) -> Result<Type, Fault> {
-    let named = |kind: &Type| word(*kind) == text || kind.number().to_string() == text;
-    Type::ALL.into_iter().find(named).ok_or_else(|| {
-        let words: Vec<&str> = Type::ALL.into_iter().map(word).collect();
-        let message = format!("no module type: {text} (there are {})", words.join(", "));
+/// What one statement sets: a row of a module, or one output of a word.
+#[derive(Debug, PartialEq, Eq)]
+pub struct Setting {
+    /// The row's number.
+    pub row: usize,
+    pub output: Option<u16>,
+    value: i64,
+}
+
+impl Setting {
+    /// The parameter's value with this setting.
+    pub fn over(&self, before: i64) -> i64 {
+        match self.output {
+            None => self.value,
+            Some(output) if self.value == 1 => before | bit(output),
+            Some(output) => before & !bit(output),
+        }
+    }
+}
+
+/// Reads `INDEX = VALUE`; `4>(INPUT,OUTPUT)` is one output of an input's word.
+pub fn read_setting(kind: Type, index: &str, value: &str, line: usize) -> Result<Setting, Fault> {
+    let wrong = |takes: String| Fault::new(line, format!("{index} takes {takes}, not: {value}"));
+    if let Some((input, output)) = read_crosspoint(kind, index) {
+        let value = read_value(Kind::Switch, value);
+        let (row, _) = layout(kind)
+            .find((3, Some(input)))
+            .expect("a word of each input");
+        return Ok(Setting {
+            row,
+            output: Some(output),
+            value: value.ok_or_else(|| wrong("on or off".to_string()))?,
+        });
+    }
+    let mut rows = layout(kind).rows().enumerate();
+    let found = rows.find(|(_, row)| index_text(row.index, None) == index);
+    let (row, limits) = found.ok_or_else(|| {
+        let message = format!(
+            "a {} has no index {index} ({})",
+            type_name(kind),
+            indices(kind)
+        );
         Fault::new(line, message)
+    })?;
+    let value = read_value(limits.kind, value).filter(|&value| limits.permits(value));
+    Ok(Setting {
+        row,
+        output: None,
+        value: value.ok_or_else(|| wrong(range(limits)))?,
     })
 }
 
-fn word(kind: Type) -> &'static str {
-    match kind {
-        Type::ToneControlEq => "tone-control-eq",
-        Type::SmartBass => "smartbass",
-        Type::DynamicEq => "dynamic-eq",
-        Type::RoomCombiner => "room-combiner",
-        Type::ConferenceRouter => "conference-router",
-        Type::FeedbackSuppression => "feedback-suppression",
-    }
-}
-
-/// A type's name in the story.
-pub fn type_name(kind: Type) -> &'static str {
-    match kind {
-        Type::ToneControlEq => "Tone Control EQ",
-        Type::SmartBass => "SmartBass",
-        Type::DynamicEq => "Dynamic EQ",
-        Type::RoomCombiner => "Standard Room Combiner",
-        Type::ConferenceRouter => "Conference Room Router",
-        Type::FeedbackSuppression => "Predictive Feedback Suppression",
-    }
-}
-
-/// Row number and value of one `INDEX = VALUE`.
-pub fn read_parameter(
-    kind: Type,
-    index: &str,
-    value: &str,
-    line: usize,
-) -> Result<(usize, i64), Fault> {
-    let rows = rows(kind.number());
-    let place = rows.iter().position(|row| index_text(row.index) == index);
-    let Some(place) = place else {
-        let indices: Vec<String> = rows.iter().map(|row| index_text(row.index)).collect();
-        let message = format!(
-            "a {} has no index {index} (it has {})",
-            type_name(kind),
-            indices.join(", ")
-        );
-        return Err(Fault::new(line, message));
+/// Input and output of `4>(INPUT,OUTPUT)`, where the mixer has them.
+fn read_crosspoint(kind: Type, index: &str) -> Option<(u16, u16)> {
+    let Type::StandardMixer { inputs, outputs } = kind else {
+        return None;
     };
-    let row = &rows[place];
-    match read_value(row, value) {
-        Some(read) if row.permits(read) => Ok((place, read)),
-        _ => {
-            let message = format!("{index} takes {}, not: {value}", range(row));
-            Err(Fault::new(line, message))
-        }
-    }
+    let mut all =
+        (1..=u16::from(inputs)).flat_map(|i| (1..=u16::from(outputs)).map(move |o| (i, o)));
+    all.find(|&(input, output)| index_text((3, Some(input)), Some(output)) == index)
 }
 
-/// A value as a file writes it: `-4`, `0.5`; `on`, `off`; `3`.
-fn read_value(row: &Row, text: &str) -> Option<i64> {
-    let digits = |text: &str| match text.bytes().all(|byte| byte.is_ascii_digit()) {
-        true => text.parse::<i64>().ok().filter(|&number| number < 100_000),
-        false => None,
-    };
-    match row.kind {
-        Kind::Switch => match text {
-            "on" => Some(1),
-            "off" => Some(0),
-            _ => None,
-        },
-        Kind::Number => digits(text),
-        Kind::Level => {
-            let (sign, size) = match text.strip_prefix('-') {
-                Some(size) => (-1, size),
-                None => (1, text),
-            };
-            let (whole, tenth) = size.split_once('.').unwrap_or((size, "0"));
-            if tenth.len() != 1 {
-                return None;
-            }
-            Some(sign * (digits(whole)? * 10 + digits(tenth)?))
-        }
+/// The indices that a type has, in words.
+fn indices(kind: Type) -> String {
+    if let Type::StandardMixer {
+        inputs: m,
+        outputs: n,
+    } = kind
+    {
+        let channels = format!("1>1 to 1>{}, 2>1 to 2>{}", 2 * m, 2 * n);
+        return format!("it has {channels}, 3>1 to 3>{m}, 4>(1,1) to 4>({m},{n})");
     }
+    let indices = layout(kind).rows().map(|row| index_text(row.index, None));
+    format!("it has {}", indices.collect::<Vec<_>>().join(", "))
 }
 
-/// What a row takes, in words.
-fn range(row: &Row) -> String {
-    match row.kind {
-        Kind::Switch => "on or off".to_string(),
-        Kind::Number => format!("a number from {} to {}", row.low, row.high),
-        Kind::Level => format!(
-            "a level from {} to {} dB in steps of {}",
-            tenths(row.low),
-            tenths(row.high),
-            tenths(i64::from(row.step))
-        ),
+/// `1` or `1>2`; for an output of a word `4>(1,2)`.
+pub fn index_text(index: Index, output: Option<u16>) -> String {
+    match (index, output) {
+        ((_, Some(input)), Some(output)) => format!("4>({input},{output})"),
+        ((first, Some(second)), _) => format!("{first}>{second}"),
+        ((first, None), _) => first.to_string(),
     }
-}
-
-/// `1` or `1>2`.
-pub fn index_text(index: Index) -> String {
-    match index {
-        (first, None) => first.to_string(),
-        (first, Some(second)) => format!("{first}>{second}"),
-    }
-}
-
-/// A value in the story.
-pub fn value_text(row: &Row, value: i64) -> String {
-    match row.kind {
-        Kind::Switch if value == 1 => "on".to_string(),
-        Kind::Switch => "off".to_string(),
-        Kind::Number => value.to_string(),
-        Kind::Level => tenths(value),
-    }
-}
-
-fn tenths(value: i64) -> String {
-    let sign = if value < 0 { "-" } else { "" };
-    format!("{sign}{}.{}", value.abs() / 10, value.abs() % 10)
 }
 
 #[cfg(test)]
 mod tests {
     use super::*;
+    use crate::value::value_text;
+
+    const DESK: Type = Type::StandardMixer {
+        inputs: 2,
+        outputs: 10,
+    };
+
+    fn read(kind: Type, index: &str, value: &str) -> Option<i64> {
+        let setting = read_setting(kind, index, value, 1).ok()?;
+        Some(setting.over(0))
+    }
 
     #[test]
     fn values() {
-        let read = |kind, index, value| {
-            read_parameter(kind, index, value, 1)
-                .ok()
-                .map(|(_, value)| value)
-        };
         let tone = Type::ToneControlEq;
         assert_eq!(read(tone, "1", "-4"), Some(-40));
         assert_eq!(read(tone, "1", "-0.5"), Some(-5));
@@ -170,17 +138,40 @@ mod tests {
 
     #[test]
     fn every_row_reads_what_is_shown() {
-        for kind in Type::ALL {
-            let all = rows(kind.number());
-            assert_eq!(all.len(), kind.rows());
-            for (place, row) in all.iter().enumerate() {
-                assert_eq!(row.start(), kind.start()[place]);
+        for kind in Type::FIXED.into_iter().chain([DESK]) {
+            for (place, row) in layout(kind).rows().enumerate() {
                 for value in [row.low, row.high, row.start()] {
-                    let index = index_text(row.index);
-                    let text = value_text(row, value);
-                    assert_eq!(read_parameter(kind, &index, &text, 1), Ok((place, value)));
+                    let index = index_text(row.index, None);
+                    let text = value_text(row.kind, value);
+                    let setting = read_setting(kind, &index, &text, 1).unwrap();
+                    assert_eq!((setting.row, setting.output), (place, None));
+                    assert_eq!(setting.over(row.low), value);
                 }
             }
         }
+    }
+
+    #[test]
+    fn words_and_outputs() {
+        assert_eq!(read(DESK, "3>2", "80400000"), Some(0x8040_0000));
+        assert_eq!(read(DESK, "3>2", "80200000"), None);
+        assert_eq!(read(DESK, "4>(2,10)", "on"), Some(0x0040_0000));
+        let off = read_setting(DESK, "4>(1,2)", "off", 1).unwrap();
+        assert_eq!((off.row, off.output), (24, Some(2)));
+        assert_eq!(off.over(0xC000_0000), 0x8000_0000);
+        for (index, value) in [
+            ("4>(0,1)", "on"),
+            ("4>(3,1)", "on"),
+            ("4>(1,11)", "on"),
+            ("4>(1,0)", "on"),
+            ("4>(1,1)", "O"),
+            ("4>(1,1)", "80000000"),
+            ("3>(1,1)", "on"),
+            ("4>1", "on"),
+            ("3>3", "80000000"),
+        ] {
+            assert_eq!(read(DESK, index, value), None, "{index}");
+        }
+        assert_eq!(read(Type::ConferenceRouter, "4>(1,1)", "on"), None);
     }
 }

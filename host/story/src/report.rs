@@ -2,10 +2,13 @@
 
 use std::fmt::Write;
 
-use egrivundo::{List, Module, Port, Refusal, Reply, Room};
-use reference::catalogue::rows;
+use egrivundo::{List, Module, Port, Reply, Room};
+use reference::catalogue::Kind;
 
-use crate::parameter::{index_text, type_name, value_text};
+use crate::parameter::index_text;
+use crate::refusal::refused;
+use crate::types::{layout, type_name};
+use crate::value::{meant, outputs, value_text};
 use crate::wish_file::Wish;
 
 /// Writing to a String does not fail.
@@ -47,7 +50,7 @@ pub fn tell(room: &Room, wish: &Wish, wish_name: &str) -> Result<String, String>
     Ok(out)
 }
 
-fn label(module: &Module) -> String {
+pub fn label(module: &Module) -> String {
     String::from_utf8_lossy(module.label).into_owned()
 }
 
@@ -61,7 +64,7 @@ fn modules(out: &mut String, room: &Room) {
     for (number, module) in room.modules().enumerate() {
         say!(
             out,
-            "  {:2}  {:32} {:34} {:2} parameter{}",
+            "  {:2}  {:32} {:34} {:3} parameter{}",
             number + 1,
             type_name(module.kind),
             format!("\"{}\"", label(&module)),
@@ -71,26 +74,28 @@ fn modules(out: &mut String, room: &Room) {
     }
 }
 
-/// The present values, some on each line.
+/// The present values, some on each line, and each word with its outputs.
 fn balance(out: &mut String, room: &Room) {
     say!(out, "\nThe present balance (levels in dB)");
     for module in room.modules() {
         say!(out, "  \"{}\"", label(&module));
-        let rows = rows(module.kind.number());
-        let texts: Vec<String> = rows
-            .iter()
-            .zip(module.values)
-            .map(|(row, &value)| {
-                format!("{:>5} {:6}", index_text(row.index), value_text(row, value))
-            })
-            .collect();
-        for some in texts.chunks(6) {
-            say!(out, "   {}", some.join(" ").trim_end());
+        let rows = layout(module.kind).rows().zip(module.values);
+        let texts = rows.map(|(row, &value)| {
+            let (index, text) = (index_text(row.index, None), value_text(row.kind, value));
+            (row.kind, value, format!("{index:>5} {text:6}"))
+        });
+        let (words, others): (Vec<_>, Vec<_>) = texts.partition(|text| text.0 == Kind::Word);
+        for some in others.chunks(6) {
+            let texts: Vec<&str> = some.iter().map(|text| &text.2[..]).collect();
+            say!(out, "   {}", texts.join(" ").trim_end());
+        }
+        for (_, word, text) in words {
+            say!(out, "   {text}  to {}", outputs(word));
         }
     }
 }
 
-fn chosen<'a>(room: &'a Room, wish: &'a Wish) -> impl Iterator<Item = Module<'a>> {
+pub fn chosen<'a>(room: &'a Room, wish: &'a Wish) -> impl Iterator<Item = Module<'a>> {
     room.modules()
         .zip(&wish.selection)
         .filter(|&(_, &byte)| byte == 1)
@@ -101,23 +106,23 @@ fn wishes(out: &mut String, room: &Room, wish: &Wish) {
     say!(out, "\nThe wish");
     for module in chosen(room, wish) {
         say!(out, "  \"{}\"", label(&module));
-        for (number, row) in rows(module.kind.number()).iter().enumerate() {
+        for (number, row) in layout(module.kind).rows().enumerate() {
             let place = module.start + number;
-            if !wish.lines.contains_key(&place) {
-                continue;
+            for (output, _) in wish.given.of(place) {
+                let present = meant(row.kind, module.values[number], output);
+                let (kind, wanted) = meant(row.kind, wish.wanted[place], output);
+                let note = if present.1 == wanted {
+                    "  (as it is)"
+                } else {
+                    ""
+                };
+                say!(
+                    out,
+                    "    {:>9}  {}{note}",
+                    index_text(row.index, output),
+                    value_text(kind, wanted)
+                );
             }
-            let (present, wanted) = (module.values[number], wish.wanted[place]);
-            let note = if present == wanted {
-                "  (as it is)"
-            } else {
-                ""
-            };
-            say!(
-                out,
-                "    {:>5}  {}{note}",
-                index_text(row.index),
-                value_text(row, wanted)
-            );
         }
     }
 }
@@ -156,7 +161,7 @@ fn table(out: &mut String, room: &Room, wish: &Wish, after: &Room) {
     say!(out, "\nEvery parameter before and after");
     say!(
         out,
-        "  {:34} {:>5}  {:>7}  {:>7}",
+        "  {:34} {:>5}  {:>8}  {:>8}",
         "module",
         "index",
         "before",
@@ -164,27 +169,36 @@ fn table(out: &mut String, room: &Room, wish: &Wish, after: &Room) {
     );
     for (module, later) in room.modules().zip(after.modules()) {
         let pairs = module.values.iter().zip(later.values);
-        for (number, (row, (&old, &new))) in
-            rows(module.kind.number()).iter().zip(pairs).enumerate()
-        {
-            let mark = match (
-                old == new,
-                wish.lines.contains_key(&(module.start + number)),
-            ) {
+        let rows = layout(module.kind).rows().zip(pairs);
+        for (number, (row, (&old, &new))) in rows.enumerate() {
+            let mark = match (old == new, wish.given.line(module.start + number)) {
                 (true, _) => "",
-                (false, true) => "  moved, as wished",
-                (false, false) => "  MOVED, NOT WISHED",
+                (false, Some(_)) => "  moved, as wished",
+                (false, None) => "  MOVED, NOT WISHED",
+            };
+            let how = match row.kind {
+                Kind::Word => turned(old, new),
+                _ => String::new(),
             };
             say!(
                 out,
-                "  {:34} {:>5}  {:>7}  {:>7}{mark}",
+                "  {:34} {:>5}  {:>8}  {:>8}{mark}{how}",
                 format!("\"{}\"", label(&module)),
-                index_text(row.index),
-                value_text(row, old),
-                value_text(row, new)
+                index_text(row.index, None),
+                value_text(row.kind, old),
+                value_text(row.kind, new)
             );
         }
     }
+}
+
+/// The outputs that were turned on and off between two words.
+fn turned(old: i64, new: i64) -> String {
+    let [on, off] = [(new & !old, "on"), (old & !new, "off")].map(|(word, how)| match word {
+        0 => String::new(),
+        _ => format!(", {} {how}", outputs(word)),
+    });
+    on + &off
 }
 
 /// Wanted values for chosen modules, present ones for the others.
@@ -195,35 +209,4 @@ fn expected(room: &Room, wish: &Wish) -> Vec<i64> {
         values[places.clone()].copy_from_slice(&wish.wanted[places]);
     }
     values
-}
-
-/// The refusal, with the lines of the wish that are beyond reach.
-fn refused(room: &Room, wish: &Wish, wish_name: &str, refusal: Refusal) -> String {
-    let mut out = refusal.to_string();
-    if refusal != Refusal::Reach {
-        return out;
-    }
-    for module in chosen(room, wish) {
-        let bearers = room.modules().filter(|other| other.label == module.label);
-        let shared = bearers.count() > 1;
-        for (number, row) in rows(module.kind.number()).iter().enumerate() {
-            let place = module.start + number;
-            let differs = module.values[number] != wish.wanted[place];
-            let Some(line) = wish.lines.get(&place).filter(|_| differs) else {
-                continue;
-            };
-            let index = index_text(row.index);
-            if !row.settable {
-                write!(out, "\n{wish_name}:{line}: {index} is read-only").unwrap();
-            } else if shared {
-                write!(
-                    out,
-                    "\n{wish_name}:{line}: more than one module bears the label \"{}\"",
-                    label(&module)
-                )
-                .unwrap();
-            }
-        }
-    }
-    out
 }

@@ -1,49 +1,44 @@
 //! Room files: the modules and their present values.
 //!
 //!     module TYPE "LABEL"
+//!     module standard-mixer "LABEL" 8x4
 //!     INDEX = VALUE
 //!
 //! A value that is not given starts at 0 where its row permits it, else at
-//! the row's low.
-
-use std::collections::HashMap;
+//! the row's low. Outputs of a word that are not given are off.
 
 use egrivundo::{Room, Type};
 
-use crate::lines::{quoted, statements, Content, Fault};
-use crate::parameter::{read_parameter, read_type};
+use crate::given::Given;
+use crate::lines::{statements, Content, Fault};
+use crate::parameter::read_setting;
+use crate::types::read_module;
 
 pub fn parse(text: &str) -> Result<Room, Fault> {
     let mut modules: Vec<(Type, &str)> = Vec::new();
     let mut values: Vec<i64> = Vec::new();
     let mut start = 0;
-    let mut given = HashMap::new();
+    let mut given = Given::default();
     for statement in statements(text)? {
         let line = statement.line;
         match statement.content {
             Content::Module(rest) => {
-                let Some((kind, label)) = rest.split_once(' ') else {
-                    return Err(Fault::new(line, "write: module TYPE \"LABEL\""));
-                };
                 if modules.len() == 64 {
                     return Err(Fault::new(line, "a room has at most 64 modules"));
                 }
-                let kind = read_type(kind, line)?;
-                modules.push((kind, quoted(label.trim(), line)?));
+                let (kind, label) = read_module(rest, line)?;
+                modules.push((kind, label));
                 start = values.len();
                 values.extend_from_slice(kind.start());
-                given.clear();
             }
             Content::Value(index, value) => {
                 let Some(&(kind, _)) = modules.last() else {
                     return Err(Fault::new(line, "a value before the first module"));
                 };
-                let (row, value) = read_parameter(kind, index, value, line)?;
-                if let Some(earlier) = given.insert(row, line) {
-                    let message = format!("{index} was given on line {earlier}");
-                    return Err(Fault::new(line, message));
-                }
-                values[start + row] = value;
+                let setting = read_setting(kind, index, value, line)?;
+                let place = start + setting.row;
+                given.note(place, setting.output, line, index)?;
+                values[place] = setting.over(values[place]);
             }
         }
     }
@@ -66,11 +61,29 @@ mod tests {
     }
 
     #[test]
+    fn a_mixer() {
+        let text = "module standard-mixer \"M\" 2x3\n1>1 = -3\n2>6 = on\n3>1 = A0000000\n\
+                    4>(2,1) = on\n4>(2,3) = on\n4>(2,2) = off\nmodule 2 \"S\"\n1 = on\n";
+        let room = parse(text).unwrap();
+        assert_eq!(room.table()[33..35], [2, 3]);
+        let word = 0xA000_0000;
+        assert_eq!(
+            room.values(),
+            [-30, 0, 0, 0, 0, 0, 0, 0, 0, 1, word, word, 1]
+        );
+    }
+
+    #[test]
     fn faults() {
         for (text, line) in [
             ("1 = 2", 1),
             ("module", 1),
             ("module 1", 1),
+            ("module 7 \"M\" 0x1", 1),
+            ("module 7 \"M\" 1x1\n4>(1,2) = on", 2),
+            ("module 7 \"M\" 1x1\n3>1 = C0000000", 2),
+            ("module 7 \"M\" 1x1\n3>1 = 80000000\n4>(1,1) = on", 3),
+            ("module 7 \"M\" 1x1\n4>(1,1) = on\n4>(1,1) = on", 3),
             ("\nmodule 7 \"T\"", 2),
             ("module 1 T", 1),
             ("module 1 \"T\"\n7 = 1", 2),

@@ -4,22 +4,21 @@
 //!     INDEX = VALUE
 //!
 //! `module NUMBER` chooses by the place in the room, from 1. A value of a
-//! chosen module that is not given is wanted as it is at present.
-
-use std::collections::HashMap;
+//! chosen module that is not given is wanted as it is at present, and so is an
+//! output of a word.
 
 use egrivundo::{Module, Room};
 
+use crate::given::Given;
 use crate::lines::{quoted, statements, Content, Fault};
-use crate::parameter::read_parameter;
+use crate::parameter::read_setting;
 
 /// A selection, the wanted values, and the lines that say them.
 #[derive(Debug)]
 pub struct Wish {
     pub selection: Vec<u8>,
     pub wanted: Vec<i64>,
-    /// Line of the file for each value that it gives.
-    pub lines: HashMap<usize, usize>,
+    pub given: Given,
 }
 
 pub fn parse(text: &str, room: &Room) -> Result<Wish, Fault> {
@@ -27,7 +26,7 @@ pub fn parse(text: &str, room: &Room) -> Result<Wish, Fault> {
     let mut wish = Wish {
         selection: vec![0; modules.len()],
         wanted: room.values().to_vec(),
-        lines: HashMap::new(),
+        given: Given::default(),
     };
     let mut chosen: Option<Module> = None;
     for statement in statements(text)? {
@@ -45,13 +44,10 @@ pub fn parse(text: &str, room: &Room) -> Result<Wish, Fault> {
                 let Some(module) = chosen else {
                     return Err(Fault::new(line, "a value before the first module"));
                 };
-                let (row, value) = read_parameter(module.kind, index, value, line)?;
-                let place = module.start + row;
-                if let Some(earlier) = wish.lines.insert(place, line) {
-                    let message = format!("{index} was given on line {earlier}");
-                    return Err(Fault::new(line, message));
-                }
-                wish.wanted[place] = value;
+                let setting = read_setting(module.kind, index, value, line)?;
+                let place = module.start + setting.row;
+                wish.given.note(place, setting.output, line, index)?;
+                wish.wanted[place] = setting.over(wish.wanted[place]);
             }
         }
     }
@@ -102,7 +98,22 @@ mod tests {
         let wish = parse("module \"T\"\n3 = 0.5\nmodule 3\n1 = on\n", &room()).unwrap();
         assert_eq!(wish.selection, [1, 0, 1]);
         assert_eq!(wish.wanted, [20, 0, 5, 0, 0, 0, 0, 1]);
-        assert_eq!(wish.lines, HashMap::from([(2, 2), (7, 4)]));
+        let lines: Vec<_> = (0..8).map(|place| wish.given.line(place)).collect();
+        let none = None;
+        assert_eq!(
+            lines,
+            [none, none, Some(2), none, none, none, none, Some(4)]
+        );
+    }
+
+    #[test]
+    fn outputs_that_are_not_given_stay() {
+        let room = room_file::parse("module 7 \"M\" 1x3\n3>1 = A0000000\n").unwrap();
+        let wish = parse("module \"M\"\n4>(1,2) = on\n4>(1,3) = off\n", &room).unwrap();
+        assert_eq!(wish.wanted[8], 0xC000_0000);
+        assert_eq!(wish.given.line(8), Some(2));
+        let whole = "module \"M\"\n4>(1,2) = on\n3>1 = 80000000\n";
+        assert_eq!(parse(whole, &room).unwrap_err().line, 3);
     }
 
     #[test]

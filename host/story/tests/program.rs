@@ -47,6 +47,23 @@ fn the_example() {
 }
 
 #[test]
+fn a_desk() {
+    let output = story(&[&example("outside-broadcast.room"), &example("desk.wish")]);
+    let text = String::from_utf8(output.stdout).unwrap();
+    assert!(output.status.success());
+    assert!(text.contains("Standard Mixer 8x4"));
+    assert!(text.contains("The restore list: 6 lines, 107 bytes"));
+    // Two words of which one output is turned, and one of which three are.
+    for line in ["4>(2,1)=O", "4>(3,3)=F", "3>5=C0000000"] {
+        assert!(text.contains(&format!("SA\"Desk\">{line}\n")), "{line}");
+    }
+    assert!(text.contains("3>1 80000001  to outputs 1, 32\n"));
+    assert!(text.contains("moved, as wished, outputs 1-2 on, output 4 off\n"));
+    assert!(text.contains("6 moved as wished, 102 stayed"));
+    assert!(!text.contains("NOT WISHED"));
+}
+
+#[test]
 fn wrong_files() {
     let room = b"module 1 \"T\"\nmodule 5 \"R\"\nmodule 2 \"S\"\nmodule 2 \"S\"\n";
     fails(b"\n1 = 1\n", b"", ".room:2:", "value-first");
@@ -66,6 +83,25 @@ fn wrong_files() {
     );
     fails(room, b"module 4\n\n1 = on\n", "refused with 7", "reach");
     fails(room, b"module \"S\"\n", "modules 3 and 4", "which");
+    let room = b"module standard-mixer \"M\" 2x3\n";
+    fails(
+        b"module standard-mixer \"M\"\n",
+        b"",
+        ".room:1: a mixer has 1 to 32",
+        "size",
+    );
+    fails(
+        room,
+        b"module \"M\"\n3>1 = 10000000\n",
+        ".wish:2: 3>1 takes eight hex digits with bits of outputs 1-3 alone",
+        "output",
+    );
+    fails(
+        room,
+        b"module \"M\"\n4>(3,1) = on\n",
+        ".wish:2: a Standard Mixer 2x3 has no index 4>(3,1)",
+        "pair",
+    );
 }
 
 #[test]

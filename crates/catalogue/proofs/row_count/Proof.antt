@@ -1,19 +1,19 @@
--- `row_count`: each arm names a kind, whose rows are counted by computation.
-use mathlib.Core.Path.{refl}
-use lib.ListN.{length}
-use Rattle.catalogue.specs.Catalogue.{catalogue, level, minus, number, rowsIn, rowsOf, switch}
-use Rattle.catalogue.specs.Catalogue.Laws.{at-type, known-kind, sixth}
+-- `row_count`: a mixer's rows are computed, those of another type counted.
+use borrow.Author.Needs.{needs}
+use Rattle.catalogue.specs.Catalogue.Laws.{counting}
 use Rattle.catalogue.proofs.row_count.Statement.{statement}
 use Rattle.catalogue.proofs.row_count.Tie as tie
 
 pub row-count-spec : {M : Type 1} → statement M
-unfolding rowsOf rowsIn catalogue level switch number minus
 row-count-spec =
     tie.close
     (tie.spec
-    (λ c. at-type (λ k. length (rowsIn k catalogue)) _ 1 6 (c .match .keys1) refl)
-    (λ c. at-type (λ k. length (rowsIn k catalogue)) _ 2 1 (c .match .keys2) refl)
-    (λ c. at-type (λ k. length (rowsIn k catalogue)) _ 3 1 (c .match .keys3) refl)
-    (λ c. at-type (λ k. length (rowsIn k catalogue)) _ 4 7 (c .match .keys4) refl)
-    (λ c. at-type (λ k. length (rowsIn k catalogue)) _ 5 33 (c .match .keys5) refl)
-    (λ c. at-type (λ k. length (rowsIn k catalogue)) _ 6 2 (sixth _ (known-kind _ (c .before .pre)) (c .match .rest .0 .0 .0 .0 .1) (c .match .rest .0 .0 .0 .1) (c .match .rest .0 .0 .1) (c .match .rest .0 .1) (c .match .rest .1)) refl))
+    (λ c κs. search (counting, needs))  -- is-fixed-requires
+    (λ c κs. search (counting, needs))  -- fixed-count-requires
+    (λ c. search (counting, needs))  -- returns
+    (λ c. search (counting, needs))  -- cast-result
+    (λ c. search (counting, needs))  -- mul-result
+    (λ c. search (counting, needs))  -- cast-result-2
+    (λ c. search (counting, needs))  -- mul-result-2
+    (λ c. search (counting, needs))  -- add-result
+    (λ c. search (counting, needs)))  -- returns-2

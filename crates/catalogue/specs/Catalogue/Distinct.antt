@@ -1,4 +1,4 @@
--- The rows of a module have distinct indices.
+-- The rows of a type have distinct indices.
 use mathlib.Core.Path.{_≡_, refl, sym, _∙_}
 use mathlib.Core.Bool.{Bool, true, false, cond, not}
 use mathlib.Core.List.{List, [], _∷_}
@@ -7,11 +7,10 @@ use borrow.Author.Tests.{eq-eqb, eqb-true, not-true}
 use lib.Dec.{eqb}
 use Rattle.text.specs.Every.Laws.{pairs-both, pairs-more, pairs-nil}
 use Rattle.text.specs.Every.{every, pairs}
-use Rattle.catalogue.specs.Catalogue.{Entry, catalogue, rowsIn, rowsOf}
+use Rattle.catalogue.specs.Catalogue.{Entry, rowsIn}
 use Rattle.catalogue.specs.Catalogue.Each.{rows-tested}
-use Rattle.catalogue.specs.Catalogue.Rules.{catalogue-distinct, differ}
+use Rattle.catalogue.specs.Catalogue.Rules.{differ}
 use Rattle.catalogue.specs.Row.{sameIndices}
-use Rattle.catalogue.specs.declared.layout.Layout.{Layout}
 use Rattle.catalogue.specs.declared.row.Row.{Row}
 
 -- two rows do not have the same indices
@@ -40,7 +39,3 @@ distinct-rows owner (e ∷ es) h =
         let o = eqb-true (e .owner) owner s in
         pairs-more rowsDiffer (e .row) (rowsIn owner es) (rows-tested (differ e) owner (rowsDiffer (e .row)) (λ f. differ-rows owner e f o) es p) q
     go false s p q = q
-
-pub type-distinct : (l : Layout) → pairs rowsDiffer (rowsOf l) ≡ true
-unfolding rowsOf
-type-distinct l = distinct-rows (l .kind) catalogue catalogue-distinct

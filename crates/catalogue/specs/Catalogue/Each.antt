@@ -1,4 +1,4 @@
--- What one test shows of every row of the catalogue holds of every row of a type, and of a module.
+-- What one test shows of every row of the catalogue holds of every row of a type.
 use mathlib.Core.Path.{_≡_, refl}
 use mathlib.Core.Bool.{Bool, true, false, cond}
 use mathlib.Core.List.{List, [], _∷_}
@@ -7,8 +7,7 @@ use borrow.Author.Tests.{eqb-true}
 use lib.Dec.{eqb}
 use Rattle.text.specs.Every.Laws.{every-both, every-more, every-nil}
 use Rattle.text.specs.Every.{every}
-use Rattle.catalogue.specs.Catalogue.{Entry, catalogue, rowsIn, rowsOf}
-use Rattle.catalogue.specs.declared.layout.Layout.{Layout}
+use Rattle.catalogue.specs.Catalogue.{Entry, rowsIn}
 use Rattle.catalogue.specs.declared.row.Row.{Row}
 
 -- what holds of every entry of a table holds of the rows of each type
@@ -32,7 +31,3 @@ entryTest test e = test (e .row)
 
 pub every-type : (test : Row → Bool) (owner : ℕ) (es : List Entry) → every (entryTest test) es ≡ true → every test (rowsIn owner es) ≡ true
 every-type test owner es h = rows-tested (entryTest test) owner test (λ e o k. k) es h
-
-pub type-tested : (test : Row → Bool) (l : Layout) → every (entryTest test) catalogue ≡ true → every test (rowsOf l) ≡ true
-unfolding rowsOf
-type-tested test l h = every-type test (l .kind) catalogue h

@@ -20,7 +20,7 @@ use Rattle.catalogue.specs.Catalogue.{Entry, catalogue, columns, entryAt
 use Rattle.catalogue.specs.declared.row.Indices.{Indices}
 use Rattle.catalogue.specs.declared.row.Indices.the-variants.{OneGroup, TwoGroups}
 use Rattle.catalogue.specs.declared.row.Kind.{Kind}
-use Rattle.catalogue.specs.declared.row.Kind.the-variants.{Level, Switch, Number}
+use Rattle.catalogue.specs.declared.row.Kind.the-variants.{Level, Switch, Number, Word}
 
 in-map : (es : List Entry) (n : ℕ) → n < length es → getD (map columns es) n [] ≡ columns (getD es n noEntry)
 in-map [] n h = absurd (not-suc-le-zero h)
@@ -44,7 +44,8 @@ indicesFrom a (negsuc b) = OneGroup a
 unfoldable pub kindFrom : ℕ → Kind
 kindFrom zero = Level
 kindFrom (suc zero) = Switch
-kindFrom (suc (suc n)) = Number
+kindFrom (suc (suc zero)) = Number
+kindFrom (suc (suc (suc n))) = Word
 
 pub indices-back : (i : Indices) → indicesFrom (natAbs (firstNumber i)) (secondNumber i) ≡ i
 unfolding indicesFrom firstNumber secondNumber
@@ -56,12 +57,14 @@ unfolding kindFrom kindNumber
 kind-back Level = refl
 kind-back Switch = refl
 kind-back Number = refl
+kind-back Word = refl
 
-pub kind-rest : (n : ℕ) → (n ≡ 0 → ⊥) → (n ≡ 1 → ⊥) → Number ≡ kindFrom n
+pub kind-rest : (n : ℕ) → (n ≡ 0 → ⊥) → (n ≡ 1 → ⊥) → (n ≡ 2 → ⊥) → Word ≡ kindFrom n
 unfolding kindFrom
-kind-rest zero h k = absurd (h refl)
-kind-rest (suc zero) h k = absurd (k refl)
-kind-rest (suc (suc n)) h k = refl
+kind-rest zero h k l = absurd (h refl)
+kind-rest (suc zero) h k l = absurd (k refl)
+kind-rest (suc (suc zero)) h k l = absurd (l refl)
+kind-rest (suc (suc (suc n))) h k l = refl
 
 -- ---- rules for the code that takes a row from its numbers
 

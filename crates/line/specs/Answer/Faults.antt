@@ -36,12 +36,12 @@ never k n h = absurd (let z : _≡_ {A = ℕ} 0 1 = cc in omega arith)
 module _ (r : Room) (vs : List ℤ) where
   plain-get : (g : Target) → act (r .table) vs (getOf g) .fault ≡ Nothing
   unfolding act getOf
-  plain-get (target p) = refl
+  plain-get (target p u) = refl
   plain-get (code n) = refl
 
   plain-set : (text : List ℕ) (g : Target) → act (r .table) vs (setOf r vs text g) .fault ≡ Nothing
   unfolding act setOf putOf
-  plain-set text (target p) = go (readValue (rowIn r p) (getD vs (place p) (pos 0)) text)
+  plain-set text (target p u) = go (readValue (rowIn r p) u (getD vs (place p) (pos 0)) text)
     where
       go : (v : ValueText) → act (r .table) vs (putOf p v) .fault ≡ Nothing
       go (value.Value x) = refl
@@ -82,10 +82,10 @@ module _ (r : Room) (vs : List ℤ) where
               (λ q. absurd (omega (arith, code-few r vs line n e, nak-tells n 99 (sym (ap (λ x. x .reply) a) ∙ q)))),
               (λ f. absurd (f (ap (λ x. x .fault) a))),
             )
-        go (Get p) e =
-            let a = answered r vs line (Get p) e in (
+        go (Get p u) e =
+            let a = answered r vs line (Get p u) e in (
               (λ q.
-                  let h = ap (λ l. getD l 0 0) (sym (get-spelled (r .table) p (getD vs (place p) (pos 0))) ∙ sym (ap (λ x. x .reply) a) ∙ q) ∙ nak-begins 99 in
+                  let h = ap (λ l. getD l 0 0) (sym (get-spelled (r .table) p u (getD vs (place p) (pos 0))) ∙ sym (ap (λ x. x .reply) a) ∙ q) ∙ nak-begins 99 in
                   absurd (omega arith)),
               (λ f. absurd (f (ap (λ x. x .fault) a))),
             )

@@ -5,6 +5,7 @@ use mathlib.Core.List.{List}
 use Prim.Native.Nat.{ℕ, _+_}
 use lib.IntN.{ℤ, pos}
 use lib.ListN.{length, getD, set}
+use Rattle.catalogue.specs.declared.groups.Part.{Part}
 use Rattle.values.specs.Parameters.{parameters, parameterAt, place}
 use Rattle.room.specs.Table.{sound}
 use Rattle.values.specs.Room.{Room}
@@ -45,19 +46,19 @@ pub data Effect (r : Room) (vs : List ℤ) (line : List ℕ) : Type 0 where
   malformed : (k : Cause) (n : ℕ) → meaning r vs line ≡ Malformed k n → answer r vs line ≡ record { reply = nak 99; values = vs; fault = fault.At k n } → Effect r vs line
   -- answered with another code, and the values are as before
   refused : (n : ℕ) → meaning r vs line ≡ Code n → answer r vs line ≡ record { reply = nak n; values = vs; fault = fault.Nothing } → Effect r vs line
-  -- answered with the value of the parameter named, and the values are as before
-  told : (p : Parameter) → meaning r vs line ≡ Get p → Gets (r .table) line p → parameterAt (parameters (r .table)) (place p) ≡ At p
-      → answer r vs line ≡ record { reply = getReply (r .table) p (getD vs (place p) (pos 0)); values = vs; fault = fault.Nothing } → Effect r vs line
+  -- answered with the value of the part named, and the values are as before
+  told : (p : Parameter) (u : Part) → meaning r vs line ≡ Get p u → Gets (r .table) line p u → parameterAt (parameters (r .table)) (place p) ≡ At p
+      → answer r vs line ≡ record { reply = getReply (r .table) p u (getD vs (place p) (pos 0)); values = vs; fault = fault.Nothing } → Effect r vs line
   -- acknowledged, and the value of the parameter named is the one that the text says, which the room permits
   put : (p : Parameter) (x : ℤ) → meaning r vs line ≡ Put p x → Puts r vs line p x → parameterAt (parameters (r .table)) (place p) ≡ At p
       → answer r vs line ≡ record { reply = ack; values = set vs (place p) x; fault = fault.Nothing } → Effect r vs line
 
 pub puts-place : (r : Room) (vs : List ℤ) (line : List ℕ) (p : Parameter) (x : ℤ) → sound (r .table) ≡ true → Puts r vs line p x
     → parameterAt (parameters (r .table)) (place p) ≡ At p
-puts-place r vs line p x s h = names-place (r .table) (part line (h .quote + 1) (h .close)) (part line (h .close + 1) (h .equal)) p s (h .names)
+puts-place r vs line p x s h = names-place (r .table) (part line (h .quote + 1) (h .close)) (part line (h .close + 1) (h .equal)) p (h .control) s (h .names)
 
-pub gets-place : (t line : List ℕ) (p : Parameter) → sound t ≡ true → Gets t line p → parameterAt (parameters t) (place p) ≡ At p
-gets-place t line p s h = names-place t (part line (h .quote + 1) (h .close)) (part line (h .close + 1) (length line)) p s (h .names)
+pub gets-place : (t line : List ℕ) (p : Parameter) (u : Part) → sound t ≡ true → Gets t line p u → parameterAt (parameters t) (place p) ≡ At p
+gets-place t line p u s h = names-place t (part line (h .quote + 1) (h .close)) (part line (h .close + 1) (length line)) p u s (h .names)
 
 pub put-puttable : (r : Room) (vs : List ℤ) (line : List ℕ) (p : Parameter) (x : ℤ) → sound (r .table) ≡ true → meaning r vs line ≡ Put p x → Puttable r p x
 put-puttable r vs line p x s e =
@@ -67,7 +68,7 @@ put-puttable r vs line p x s e =
           record {
             listed = puts-place r vs line p x s h;
             settable = sym (row-in-settable r p) ∙ h .valued .settable;
-            only = names-label (r .table) (part line (h .quote + 1) (h .close)) (part line (h .close + 1) (h .equal)) p s (h .names);
+            only = names-label (r .table) (part line (h .quote + 1) (h .close)) (part line (h .close + 1) (h .equal)) p (h .control) s (h .names);
           };
       permits = h .valued .permits;
     }
@@ -83,7 +84,7 @@ effect r vs line s = go (meaning r vs line) refl
     go : (m : Meaning) → meaning r vs line ≡ m → Effect r vs line
     go (Malformed k n) e = malformed k n e (answered r vs line (Malformed k n) e)
     go (Code n) e = refused n e (answered r vs line (Code n) e)
-    go (Get p) e = let g = get-told r vs line p e in told p e g (gets-place (r .table) line p s g) (answered r vs line (Get p) e)
+    go (Get p u) e = let g = get-told r vs line p u e in told p u e g (gets-place (r .table) line p u s g) (answered r vs line (Get p u) e)
     go (Put p x) e = let g = put-told r vs line p x e in put p x e g (puts-place r vs line p x s g) (answered r vs line (Put p x) e)
 
 -- permitted values stay permitted
@@ -97,5 +98,5 @@ values-stay-sound r vs line s h = go (effect r vs line s)
     go : Effect r vs line → valuesSound r (answer r vs line .values) ≡ true
     go (malformed k n m e) = after (record { reply = nak 99; values = vs; fault = fault.At k n }) e h
     go (refused n m e) = after (record { reply = nak n; values = vs; fault = fault.Nothing }) e h
-    go (told p m g l e) = after (record { reply = getReply (r .table) p (getD vs (place p) (pos 0)); values = vs; fault = fault.Nothing }) e h
+    go (told p u m g l e) = after (record { reply = getReply (r .table) p u (getD vs (place p) (pos 0)); values = vs; fault = fault.Nothing }) e h
     go (put p x m g l e) = after (record { reply = ack; values = set vs (place p) x; fault = fault.Nothing }) e (set-sound r vs (place p) p x l (g .valued .permits) h)

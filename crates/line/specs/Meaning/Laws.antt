@@ -6,21 +6,25 @@ use Prim.Native.Nat.{ℕ, _+_}
 use native.Mathlib.Omega.{arith}
 use lib.IntN.{ℤ, pos}
 use lib.ListN.{length, getD}
+use Rattle.catalogue.specs.Catalogue.{knownLayout}
+use Rattle.catalogue.specs.declared.groups.Part.{Part}
 use Rattle.room.specs.Label.{label, bearer}
 use Rattle.room.specs.Label.Laws.{bearer-found}
-use Rattle.values.specs.Parameters.{named, parameters, parameterAt, place}
+use Rattle.values.specs.Control.{named}
+use Rattle.values.specs.Control.Laws.{PartOf, named-told}
+use Rattle.values.specs.Parameters.{parameters, parametersOf, parameterAt, place}
 use Rattle.values.specs.Parameters.First.{place-is}
 use Rattle.values.specs.Parameters.Places.{at-module}
-use Rattle.values.specs.Parameters.Named.{named-told}
 use Rattle.room.specs.Table.{sound}
 use Rattle.values.specs.Room.{Room, rowIn}
-use Rattle.catalogue.specs.declared.row.Indices.{Indices}
+use Rattle.catalogue.specs.declared.groups.Groups.{Groups}
 use Rattle.room.specs.declared.label.Bearer.{Bearer}
 use Rattle.room.specs.declared.label.Bearer.the-variants.{Only, NotOne}
 use Rattle.room.specs.declared.table.Module.{Module}
 use Rattle.values.specs.declared.parameter.Parameter.{Parameter}
-use Rattle.values.specs.declared.parameter.ParameterFound.{ParameterFound}
-use Rattle.values.specs.declared.parameter.ParameterFound.the-variants.{At, Nothing}
+use Rattle.values.specs.declared.control.ControlFound.{ControlFound}
+use Rattle.values.specs.declared.control.ControlFound.the-variants.{At, Nothing}
+use Rattle.values.specs.declared.parameter.ParameterFound.the-variants as parameter
 use Rattle.text.specs.Cut.{part}
 use Rattle.syntax.specs.Shape.{shape}
 use Rattle.syntax.specs.IndexPart.{readIndices}
@@ -35,51 +39,59 @@ use Rattle.syntax.specs.declared.value_text.ValueText.{ValueText}
 use Rattle.syntax.specs.declared.value_text.ValueText.the-variants as value
 use Rattle.line.specs.declared.meaning.Meaning.the-variants.{Code, Get, Put}
 
--- ---- a parameter named by a label and an index part
+-- ---- a parameter, or a part of it, named by a label and an index part
 
--- one module alone bears the label, and the index part says indices of a row of that module's type
-pub record Names (t text indices : List ℕ) (p : Parameter) : Type 0 where
+-- one module alone bears the label, and the index part says groups that name a part of a parameter of that module
+pub record Names (t text indices : List ℕ) (p : Parameter) (u : Part) : Type 0 where
   pub one : bearer t text ≡ Only (p .owner)
-  pub groups : Indices
+  pub groups : Groups
   pub right : readIndices indices ≡ index.Right groups
-  pub names : named (p .owner) groups ≡ At p
+  pub names : named (p .owner) groups ≡ At p u
 
-no-target {ℓ} : {A : Type ℓ} (n : ℕ) (p : Parameter) → code n ≡ target p → A
-no-target n p h = absurd (let z : _≡_ {A = ℕ} 0 1 = cc in omega arith)
+no-target {ℓ} : {A : Type ℓ} (n : ℕ) (p : Parameter) (u : Part) → code n ≡ target p u → A
+no-target n p u h = absurd (let z : _≡_ {A = ℕ} 0 1 = cc in omega arith)
 
-pub names-told : (t text indices : List ℕ) (p : Parameter) → inRoom (bearer t text) (readIndices indices) ≡ target p → Names t text indices p
-unfolding inRoom inModule indexed
-names-told t text indices p h = go (bearer t text) refl (readIndices indices) refl h
-  where
-    found : (m : Module) (i : Indices) (f : ParameterFound) → bearer t text ≡ Only m → readIndices indices ≡ index.Right i → named m i ≡ f
-        → inModule f ≡ target p → Names t text indices p
-    found m i (At q) b r n h =
-        let s : q ≡ p = cc in
-        let f : named m i ≡ At p = n ∙ ap At s in
-        let o : p .owner ≡ m = named-told m i p f .owner in
-        record { one = b ∙ ap Only (sym o); groups = i; right = r; names = ap (λ k. named k i) o ∙ f }
-    found m i Nothing b r n h = no-target 2 p h
+module _ (t text indices : List ℕ) (p : Parameter) (u : Part) where
+  pub names-told : inRoom (bearer t text) (readIndices indices) ≡ target p u → Names t text indices p u
+  unfolding inRoom inModule indexed
+  names-told h = go (bearer t text) refl (readIndices indices) refl h
+    where
+      found : (m : Module) (i : Groups) (f : ControlFound) → bearer t text ≡ Only m → readIndices indices ≡ index.Right i → named m i ≡ f
+          → inModule f ≡ target p u → Names t text indices p u
+      found m i (At q v) b r n h =
+          let f : named m i ≡ At p u = cc in
+          let o : p .owner ≡ m = named-told m i p u f .owner in
+          record { one = b ∙ ap Only (sym o); groups = i; right = r; names = ap (λ k. named k i) o ∙ f }
+      found m i Nothing b r n h = no-target 2 p u h
 
-    go : (b : Bearer) → bearer t text ≡ b → (i : IndexPart) → readIndices indices ≡ i → inRoom b i ≡ target p → Names t text indices p
-    go (Only m) b (index.Right i) r h = found m i (named m i) b r refl h
-    go (Only m) b index.Wrong r h = no-target 2 p h
-    go NotOne b i r h = no-target 1 p h
+      go : (b : Bearer) → bearer t text ≡ b → (i : IndexPart) → readIndices indices ≡ i → inRoom b i ≡ target p u → Names t text indices p u
+      go (Only m) b (index.Right i) r h = found m i (named m i) b r refl h
+      go (Only m) b index.Wrong r h = no-target 2 p u h
+      go NotOne b i r h = no-target 1 p u h
 
-pub names-back : (t text indices : List ℕ) (p : Parameter) → Names t text indices p → inRoom (bearer t text) (readIndices indices) ≡ target p
-unfolding inRoom inModule indexed
-names-back t text indices p h = rw (h .one, h .right) (ap inModule (h .names))
+  pub names-back : Names t text indices p u → inRoom (bearer t text) (readIndices indices) ≡ target p u
+  unfolding inRoom inModule indexed
+  names-back h = rw (h .one, h .right) (ap inModule (h .names))
 
--- the parameter named is the one that stands at its place
-pub names-place : (t text indices : List ℕ) (p : Parameter) → sound t ≡ true → Names t text indices p → parameterAt (parameters t) (place p) ≡ At p
-names-place t text indices p s h =
-    rw (place-is p)
-    (at-module t (p .owner .number) (p .owner) (p .number) p (bearer-found t text (p .owner) s (h .one) .found)
-    (named-told (p .owner) (h .groups) p (h .names) .own))
+  module _ (s : sound t ≡ true) (h : Names t text indices p u) where
+    -- it is its module's, by its number
+    pub names-own : parameterAt (parametersOf (p .owner)) (p .number) ≡ parameter.At p
+    names-own = named-told (p .owner) (h .groups) p u (h .names) .own
 
--- its module alone bears its label
-pub names-label : (t text indices : List ℕ) (p : Parameter) → sound t ≡ true → Names t text indices p
-    → bearer t (label t (p .owner)) ≡ Only (p .owner)
-names-label t text indices p s h = ap (bearer t) (bearer-found t text (p .owner) s (h .one) .labelled) ∙ h .one
+    -- the parameter named is the one that stands at its place
+    pub names-place : parameterAt (parameters t) (place p) ≡ parameter.At p
+    names-place = rw (place-is p) (at-module t (p .owner .number) (p .owner) (p .number) p (bearer-found t text (p .owner) s (h .one) .found) names-own)
+
+    -- its module alone bears its label, and has a layout of rows
+    pub names-label : bearer t (label t (p .owner)) ≡ Only (p .owner)
+    names-label = ap (bearer t) (bearer-found t text (p .owner) s (h .one) .labelled) ∙ h .one
+
+    pub names-known : knownLayout (p .owner .layout) ≡ true
+    names-known = bearer-found t text (p .owner) s (h .one) .known
+
+    -- the parameter has the part that is named
+    pub names-has : PartOf p u
+    names-has = named-told (p .owner) (h .groups) p u (h .names) .has
 
 -- ---- lines that put a value
 
@@ -89,42 +101,44 @@ pub record Puts (r : Room) (vs : List ℤ) (line : List ℕ) (p : Parameter) (x 
   pub close : ℕ
   pub equal : ℕ
   pub shaped : shape line ≡ shape.Set quote close equal
-  pub names : Names (r .table) (part line (quote + 1) close) (part line (close + 1) equal) p
-  pub valued : Valued (rowIn r p) (getD vs (place p) (pos 0)) (part line (equal + 1) (length line)) x
+  pub control : Part
+  pub names : Names (r .table) (part line (quote + 1) close) (part line (close + 1) equal) p control
+  pub valued : Valued (rowIn r p) control (getD vs (place p) (pos 0)) (part line (equal + 1) (length line)) x
 
 -- a get line
-pub record Gets (t line : List ℕ) (p : Parameter) : Type 0 where
+pub record Gets (t line : List ℕ) (p : Parameter) (u : Part) : Type 0 where
   pub quote : ℕ
   pub close : ℕ
   pub shaped : shape line ≡ shape.Get quote close
-  pub names : Names t (part line (quote + 1) close) (part line (close + 1) (length line)) p
+  pub names : Names t (part line (quote + 1) close) (part line (close + 1) (length line)) p u
 
 no-put {ℓ} : {A : Type ℓ} (p : Parameter) (x : ℤ) (n : ℕ) → Code n ≡ Put p x → A
 no-put p x n h = absurd (let z : _≡_ {A = ℕ} 0 1 = cc in omega arith)
 
-no-get {ℓ} : {A : Type ℓ} (p : Parameter) (n : ℕ) → Code n ≡ Get p → A
-no-get p n h = absurd (let z : _≡_ {A = ℕ} 0 1 = cc in omega arith)
+no-get {ℓ} : {A : Type ℓ} (p : Parameter) (u : Part) (n : ℕ) → Code n ≡ Get p u → A
+no-get p u n h = absurd (let z : _≡_ {A = ℕ} 0 1 = cc in omega arith)
 
 get-puts {ℓ} : {A : Type ℓ} (p : Parameter) (x : ℤ) (g : Target) → getOf g ≡ Put p x → A
 unfolding getOf
-get-puts p x (target q) h = absurd (let z : _≡_ {A = ℕ} 0 1 = cc in omega arith)
+get-puts p x (target q u) h = absurd (let z : _≡_ {A = ℕ} 0 1 = cc in omega arith)
 get-puts p x (code n) h = no-put p x n h
 
 -- a set line's target and text
 record SetTold (r : Room) (vs : List ℤ) (text : List ℕ) (g : Target) (p : Parameter) (x : ℤ) : Type 0 where
-  aimed : g ≡ target p
-  valued : Valued (rowIn r p) (getD vs (place p) (pos 0)) text x
+  control : Part
+  aimed : g ≡ target p control
+  valued : Valued (rowIn r p) control (getD vs (place p) (pos 0)) text x
 
 set-told : (r : Room) (vs : List ℤ) (text : List ℕ) (g : Target) (p : Parameter) (x : ℤ) → setOf r vs text g ≡ Put p x → SetTold r vs text g p x
 unfolding setOf putOf
-set-told r vs text (target q) p x h = go (readValue (rowIn r q) (getD vs (place q) (pos 0)) text) refl h
+set-told r vs text (target q u) p x h = go (readValue (rowIn r q) u (getD vs (place q) (pos 0)) text) refl h
   where
-    go : (v : ValueText) → readValue (rowIn r q) (getD vs (place q) (pos 0)) text ≡ v → putOf q v ≡ Put p x → SetTold r vs text (target q) p x
+    go : (v : ValueText) → readValue (rowIn r q) u (getD vs (place q) (pos 0)) text ≡ v → putOf q v ≡ Put p x → SetTold r vs text (target q u) p x
     go (value.Value y) e h =
         let s : q ≡ p = cc in
         let z : y ≡ x = cc in
-        let v : readValue (rowIn r p) (getD vs (place p) (pos 0)) text ≡ value.Value x = cc in
-        record { aimed = ap target s; valued = value-told (rowIn r p) (getD vs (place p) (pos 0)) text x v }
+        let v : readValue (rowIn r p) u (getD vs (place p) (pos 0)) text ≡ value.Value x = cc in
+        record { control = u; aimed = ap (λ k. target k u) s; valued = value-told (rowIn r p) u (getD vs (place p) (pos 0)) text x v }
     go value.Wrong e h = no-put p x 3 h
 set-told r vs text (code n) p x h = no-put p x n h
 
@@ -142,7 +156,8 @@ put-told r vs line p x h = go (shape line) refl h
           close = c;
           equal = e;
           shaped = s;
-          names = names-told (r .table) (part line (o + 1) c) (part line (c + 1) e) p (g .aimed);
+          control = g .control;
+          names = names-told (r .table) (part line (o + 1) c) (part line (c + 1) e) p (g .control) (g .aimed);
           valued = g .valued;
         }
 
@@ -151,32 +166,32 @@ unfolding meaning ofShape bearerOf setOf putOf
 puts-back r vs line p x h =
     rw (
       h .shaped,
-      names-back (r .table) (part line (h .quote + 1) (h .close)) (part line (h .close + 1) (h .equal)) p (h .names),
-      value-back (rowIn r p) (getD vs (place p) (pos 0)) (part line (h .equal + 1) (length line)) x (h .valued),
+      names-back (r .table) (part line (h .quote + 1) (h .close)) (part line (h .close + 1) (h .equal)) p (h .control) (h .names),
+      value-back (rowIn r p) (h .control) (getD vs (place p) (pos 0)) (part line (h .equal + 1) (length line)) x (h .valued),
     )
 
-set-gets : (r : Room) (p : Parameter) (vs : List ℤ) (text : List ℕ) (g : Target) → setOf r vs text g ≡ Get p → ⊥
+set-gets : (r : Room) (p : Parameter) (u : Part) (vs : List ℤ) (text : List ℕ) (g : Target) → setOf r vs text g ≡ Get p u → ⊥
 unfolding setOf putOf
-set-gets r p vs text (target q) h = go (readValue (rowIn r q) (getD vs (place q) (pos 0)) text) h
+set-gets r p u vs text (target q v) h = go (readValue (rowIn r q) v (getD vs (place q) (pos 0)) text) h
   where
-    go : (v : ValueText) → putOf q v ≡ Get p → ⊥
+    go : (v : ValueText) → putOf q v ≡ Get p u → ⊥
     go (value.Value y) h = let z : _≡_ {A = ℕ} 0 1 = cc in omega arith
-    go value.Wrong h = no-get p 3 h
-set-gets r p vs text (code n) h = no-get p n h
+    go value.Wrong h = no-get p u 3 h
+set-gets r p u vs text (code n) h = no-get p u n h
 
-get-aims : (p : Parameter) (g : Target) → getOf g ≡ Get p → g ≡ target p
+get-aims : (p : Parameter) (u : Part) (g : Target) → getOf g ≡ Get p u → g ≡ target p u
 unfolding getOf
-get-aims p (target q) h = let s : q ≡ p = cc in ap target s
-get-aims p (code n) h = no-get p n h
+get-aims p u (target q v) h = (cc)
+get-aims p u (code n) h = no-get p u n h
 
-pub get-told : (r : Room) (vs : List ℤ) (line : List ℕ) (p : Parameter) → meaning r vs line ≡ Get p → Gets (r .table) line p
+pub get-told : (r : Room) (vs : List ℤ) (line : List ℕ) (p : Parameter) (u : Part) → meaning r vs line ≡ Get p u → Gets (r .table) line p u
 unfolding meaning ofShape bearerOf
-get-told r vs line p h = go (shape line) refl h
+get-told r vs line p u h = go (shape line) refl h
   where
-    go : (s : Shape) → shape line ≡ s → ofShape r vs line (bearerOf (r .table) line s) s ≡ Get p → Gets (r .table) line p
+    go : (s : Shape) → shape line ≡ s → ofShape r vs line (bearerOf (r .table) line s) s ≡ Get p u → Gets (r .table) line p u
     go (shape.Malformed k n) e h = absurd (let z : _≡_ {A = ℕ} 0 1 = cc in omega arith)
     go (shape.Get o c) s h =
-        let g = get-aims p (inRoom (bearer (r .table) (part line (o + 1) c)) (readIndices (part line (c + 1) (length line)))) h in
-        record { quote = o; close = c; shaped = s; names = names-told (r .table) (part line (o + 1) c) (part line (c + 1) (length line)) p g }
+        let g = get-aims p u (inRoom (bearer (r .table) (part line (o + 1) c)) (readIndices (part line (c + 1) (length line)))) h in
+        record { quote = o; close = c; shaped = s; names = names-told (r .table) (part line (o + 1) c) (part line (c + 1) (length line)) p u g }
     go (shape.Set o c e) s h =
-        absurd (set-gets r p vs (part line (e + 1) (length line)) (inRoom (bearer (r .table) (part line (o + 1) c)) (readIndices (part line (c + 1) e))) h)
+        absurd (set-gets r p u vs (part line (e + 1) (length line)) (inRoom (bearer (r .table) (part line (o + 1) c)) (readIndices (part line (c + 1) e))) h)

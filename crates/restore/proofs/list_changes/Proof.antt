@@ -14,7 +14,8 @@ list-changes-spec =
     (λ c. search (listing-call, needs))  -- enum-known-bytes
     (λ c κs. search (listing-call, needs))  -- refused-requires-2
     (λ c. search (listing-call, needs))  -- returns
-    (λ c κs. search (listing-call, needs))  -- write-requires
     (λ c. search (listing-call, needs))  -- returns-2
+    (λ c κs. search (listing-call, needs))  -- write-requires
+    (λ c. search (listing-call, needs))  -- returns-3
     (λ c. search (listing-call, needs))  -- same-length
-    (λ c. search (listing-call, needs)))  -- returns-3
+    (λ c. search (listing-call, needs)))  -- returns-4

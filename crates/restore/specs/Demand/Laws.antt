@@ -29,7 +29,7 @@ use Rattle.restore.specs.Demand.Lines.Price.{potential, lowers, price-re
 use Rattle.wish.specs.Listing.{Admitted, changes, listing, allReachable, listNumber, restore, restoreNumber}
 use Rattle.wish.specs.Listing.Beyond.{wish-beyond}
 use Rattle.wish.specs.Listing.Counted.{lines-differing}
-use Rattle.wish.specs.Listing.Differing.{made-target, wish-differ}
+use Rattle.wish.specs.Listing.Differing.{made-target, wish-differ, wish-finds}
 use Rattle.wish.specs.Listing.Numbers.{list-fits, list-long, list-unreachable, number-list}
 use Rattle.wish.specs.Listing.Reach.{all-sayable}
 use Rattle.wish.specs.Listing.Telling.{listed-told, refused-told}
@@ -59,7 +59,7 @@ module _ (w : Wish) (lines : Lines (w .room)) (admitted : Admitted w) (replyRoom
       let r = w .room in
       let t = r .table in
       let kept = keeps-right r (admitted .table) in
-      let b = bound (controlSpace r) (Right r) kept (potential t (target w)) (answers-lower r (Right r) (potential t (target w)) (lowers r lines (target w))) (w .present) bs (admitted .present) in
+      let b = bound (controlSpace r) (Right r) kept (potential t (target w)) (answers-lower r (Right r) (potential t (target w)) (lowers r lines (target w) target-is-right)) (w .present) bs (admitted .present) in
       let e : potential t (target w) (feed (controlSpace r) fresh (w .present) bs .state) ≡ 0 = rw (ends-at bs f) (price-reached t (parameters t) (target w)) in
       omega (arith, b, e, price-listing t (wish-differ w admitted))
 
@@ -69,7 +69,7 @@ module _ (w : Wish) (lines : Lines (w .room)) (admitted : Admitted w) (replyRoom
   unfolding list
   listed r =
       played (list w)
-      ∙ play-listing (w .room) lines (changes w) (w .present) (all-sayable w admitted r)
+      ∙ play-listing (w .room) lines (changes w) (w .present) (all-sayable w admitted r) (wish-finds w admitted)
       ∙ ap (acknowledged (length (changes w))) (made-target w admitted)
 
   shortest : allReachable (w .room .table) (changes w) ≡ true → Shortest w replyRooms (list w)

@@ -10,18 +10,21 @@ use lib.ListN.{length, getD, length-append}
 use mir.Facts.{toZ-ofZ}
 use mir.Syntax.{w64}
 use mir.Val.{Fits, SFits, ofZ, toZ}
-use Rattle.catalogue.specs.Catalogue.{knownLayout, rowLimit, rowOf, rowsOf}
+use Rattle.catalogue.specs.Catalogue.{fixed, knownLayout, rowLimit, rowOf, rowsOf}
 use Rattle.catalogue.specs.Catalogue.Laws.{rows-few}
-use Rattle.catalogue.specs.Catalogue.Sized.{row-sized}
+use Rattle.catalogue.specs.Catalogue.Modules.{row-sized}
+use Rattle.catalogue.specs.declared.groups.Part.the-variants.{Whole}
 use Rattle.catalogue.specs.declared.row.Row.{Row}
 use Rattle.values.specs.Parameters.Laws.{parameterOf}
 use Rattle.room.specs.declared.table.Module.{Module}
+use Rattle.spelling.specs.Line.{lineFor}
 use Rattle.spelling.specs.Say.{say}
 use Rattle.spelling.specs.Say.Length.{say-short}
 use Rattle.wish.specs.Listing.{Change, listing}
 use Rattle.wish.specs.Listing.Laws.{listing-append, listing-none, one-line}
 use Rattle.wish.specs.Listing.Settable.{allSettable, settable-append, settable-none, settable-one}
 use Rattle.restore_list.specs.Measuring.{Settles, measuredIf, rowChanges}
+use Rattle.restore_list.specs.Measuring.Listed.{whole-said}
 use Rattle.restore_list.specs.Measuring.RowWalk.{RowWalk, bits-differ, bits-equal, changeOf, row-inside, rows-all, rows-differ, rows-equal, rows-start}
 use Rattle.restore_list.specs.Measuring.Told.{few-beyond, few-within}
 use Rattle.restore_list.specs.declared.module_measuring.Measured.the-variants.{Within, Beyond}
@@ -98,23 +101,27 @@ module _ (t : List ℕ) (m : Module) (vs ws : List ℤ) (bytes lines j : ℕ) (s
           few = few-beyond;
         }
 
-    module _ (n : ℕ) (f : SFits w64 (getD vs j (pos 0))) (g : SFits w64 (getD ws j (pos 0)))
-        (k : n ≡ length (say t (record { owner = m; number = j; row = r }) (toZ w64 (ofZ w64 (getD vs j (pos 0)))) (toZ w64 (ofZ w64 (getD ws j (pos 0)))) ++ (0x0D ∷ []))) where
-      line-is : n ≡ length (say t (parameterOf m j) (getD vs j (pos 0)) (getD ws j (pos 0)) ++ (0x0D ∷ []))
-      line-is = rw (toZ-ofZ f, toZ-ofZ g, e) at k
-
+    -- the line is short from whatever value it is said, so that one measured from another is refused for its length
+    module _ (n : ℕ) (from : ℤ) (g : SFits w64 (getD ws j (pos 0)))
+        (k : n ≡ length (say t (record { owner = m; number = j; row = r }) from (toZ w64 (ofZ w64 (getD ws j (pos 0)))) ++ (0x0D ∷ []))) where
       line-few : n ≤ 128
       line-few =
-          let h = say-short t (parameterOf m j) (getD vs j (pos 0)) (getD ws j (pos 0)) (row-sized (m .layout) j row-exists) g in
-          omega (arith, line-is)
+          let h = say-short t (parameterOf m j) from (getD ws j (pos 0)) (row-sized (m .layout) j (s .known) row-exists) g in
+          let i : n ≡ length (say t (parameterOf m j) from (getD ws j (pos 0)) ++ (0x0D ∷ [])) = rw (toZ-ofZ g, e) at k in
+          omega arith
 
       pub row-bytes-fit : Fits w64 (bytes + n)
       unfolding rowLimit
       row-bytes-fit = record { fits = omega (arith, line-few, s .short, row-exists, rows-few (m .layout) (s .known)) }
 
-      pub row-lines-fit : Fits w64 (lines + 1)
-      unfolding rowLimit
-      row-lines-fit = record { fits = omega (arith, s .few, row-exists, rows-few (m .layout) (s .known)) }
+    pub row-lines-fit : Fits w64 (lines + 1)
+    unfolding rowLimit
+    row-lines-fit = record { fits = omega (arith, s .few, row-exists, rows-few (m .layout) (s .known)) }
+
+    module _ (n : ℕ) (f : SFits w64 (getD vs j (pos 0))) (g : SFits w64 (getD ws j (pos 0)))
+        (k : n ≡ length (say t (record { owner = m; number = j; row = r }) (toZ w64 (ofZ w64 (getD vs j (pos 0)))) (toZ w64 (ofZ w64 (getD ws j (pos 0)))) ++ (0x0D ∷ []))) where
+      line-is : n ≡ length (say t (parameterOf m j) (getD vs j (pos 0)) (getD ws j (pos 0)) ++ (0x0D ∷ []))
+      line-is = rw (toZ-ofZ f, toZ-ofZ g, e) at k
 
       pub row-line : not (r .settable) ≡ false → Rows t m vs ws (bytes + n) (lines + 1) (j + 1)
       unfolding here
@@ -129,9 +136,20 @@ module _ (t : List ℕ) (m : Module) (vs ws : List ℤ) (bytes lines j : ℕ) (s
             settable = with-here true (not-false (r .settable) h);
             bytes-are = sym long;
             lines-are = omega (arith, s .lines-are, length-append (s .done) (here ∷ []));
-            short = omega (arith, s .short, line-few);
+            short = omega (arith, s .short, line-few n _ g k);
             few = omega (arith, s .few);
           }
+
+    -- of a module that is no mixer the line says the whole value
+    module _ (n : ℕ) (f : SFits w64 (getD vs j (pos 0))) (g : SFits w64 (getD ws j (pos 0))) (x : fixed (m .layout .kind) ≡ true)
+        (k : n ≡ length (lineFor 0x53 t (record { owner = m; number = j; row = r }) Whole (toZ w64 (ofZ w64 (getD ws j (pos 0)))) ++ (0x0D ∷ []))) where
+      pub listed-line : not (r .settable) ≡ false → Rows t m vs ws (bytes + n) (lines + 1) (j + 1)
+      listed-line =
+          row-line n f g (rw (whole-said t m j r (toZ w64 (ofZ w64 (getD vs j (pos 0)))) (toZ w64 (ofZ w64 (getD ws j (pos 0)))) x row-exists e) k)
+
+    pub listed-bytes-fit : (n : ℕ) → n ≤ 128 → Fits w64 (bytes + n)
+    unfolding rowLimit
+    listed-bytes-fit n h = record { fits = omega (arith, s .short, row-exists, rows-few (m .layout) (s .known)) }
 
 pub rows-measured : (t : List ℕ) (m : Module) (vs ws : List ℤ) (bytes lines j : ℕ) → Rows t m vs ws bytes lines j → length vs ≤ j
     → Settles t (rowChanges m vs ws) (Within bytes lines)
@@ -145,3 +163,5 @@ rows-measured t m vs ws bytes lines j s l =
     }
 
 pub ruleset row-measuring = (rows-none, row-exists, row-wanted, row-equal, row-read-only, row-bytes-fit, row-lines-fit, row-line, rows-measured)
+
+pub ruleset listed-measuring = (rows-none, row-exists, row-wanted, row-equal, row-read-only, listed-bytes-fit, row-lines-fit, listed-line, rows-measured)

@@ -13,6 +13,8 @@ use mir.Val.{Fits, SFits, ofZ, toZ}
 use Rattle.text.specs.Written.{Wrote}
 use Rattle.text.specs.Written.Laws.{wrote-length, lent-wrote, past-by}
 use Rattle.values.specs.declared.parameter.Parameter.{Parameter}
+use Rattle.catalogue.specs.declared.groups.Part.the-variants.{Whole}
+use Rattle.spelling.specs.Line.{lineFor}
 use Rattle.spelling.specs.Say.{say}
 
 -- ---- a set line, handed on as the code keeps its values
@@ -34,5 +36,27 @@ module _ (t : List ℕ) (p : Parameter) (from to : ℤ) (l : List ℕ) (at : ℕ
 
     pub line-length : length (putMid at (length l - at) l part) ≡ length l
     line-length = wrote-length line-wrote
+
+-- ---- the same for the line that says a whole value
+
+module _ (t : List ℕ) (p : Parameter) (to : ℤ) (l : List ℕ) (at : ℕ) (g : SFits w64 to)
+    (h : at + length (lineFor 0x53 t p Whole to ++ (0x0D ∷ [])) ≤ length l) where
+  pub whole-within : at ≤ length l
+  whole-within = omega arith
+
+  pub whole-room : length (lineFor 0x53 t p Whole (toZ w64 (ofZ w64 to)) ++ (0x0D ∷ [])) ≤ length (take (length l - at) (drop at l))
+  whole-room = rw (toZ-ofZ g, part-to-end l at, length-drop at l) (omega arith)
+
+  module _ (r : ℕ) (part : List ℕ) (w : Wrote (take (length l - at) (drop at l)) 0 (lineFor 0x53 t p Whole (toZ w64 (ofZ w64 to)) ++ (0x0D ∷ [])) r part) where
+    pub whole-wrote : Wrote l at (lineFor 0x53 t p Whole to ++ (0x0D ∷ [])) (at + r) (putMid at (length l - at) l part)
+    whole-wrote = lent-wrote l part at r (lineFor 0x53 t p Whole to ++ (0x0D ∷ [])) h (rw (toZ-ofZ g) at w)
+
+    pub whole-fits : length l < 18446744073709551616 → Fits w64 (at + r)
+    whole-fits b = record { fits = omega (arith, past-by whole-wrote) }
+
+    pub whole-length : length (putMid at (length l - at) l part) ≡ length l
+    whole-length = wrote-length whole-wrote
+
+pub ruleset whole-lending = (whole-within, whole-room, whole-wrote, whole-fits, whole-length)
 
 pub ruleset lending = (line-within, line-room, line-wrote, line-fits, line-length)

@@ -8,16 +8,20 @@ use lib.ListN.{length, getD, length-append}
 use mir.Facts.{toZ-ofZ}
 use mir.Syntax.{w64}
 use mir.Val.{SFits, ofZ, toZ}
-use Rattle.catalogue.specs.Catalogue.{rowOf, rowsOf}
+use mathlib.Core.Bool.{true}
+use Rattle.catalogue.specs.Catalogue.{fixed, rowOf, rowsOf}
+use Rattle.catalogue.specs.declared.groups.Part.the-variants.{Whole}
 use Rattle.catalogue.specs.declared.row.Row.{Row}
 use Rattle.text.specs.Written.{Wrote}
 use Rattle.text.specs.Written.Laws.{wrote-join, wrote-length, wrote-nothing, past-by}
 use Rattle.values.specs.Parameters.Laws.{parameterOf}
 use Rattle.room.specs.declared.table.Module.{Module}
+use Rattle.spelling.specs.Line.{lineFor}
 use Rattle.spelling.specs.Say.{say}
 use Rattle.wish.specs.Listing.{Change, listing}
 use Rattle.wish.specs.Listing.Laws.{first-fits, listing-append, listing-none, one-line}
 use Rattle.restore_list.specs.Measuring.{rowChanges}
+use Rattle.restore_list.specs.Measuring.Listed.{whole-said}
 use Rattle.restore_list.specs.Measuring.RowWalk.{RowWalk, bits-differ, bits-equal, changeOf, row-inside, rows-all, rows-differ, rows-equal, rows-start}
 
 -- the lines of the first j rows were written
@@ -84,6 +88,19 @@ module _ (t : List ℕ) (m : Module) (vs ws : List ℤ) (buffer : List ℕ) (sta
           long = wrote-length put ∙ s .long;
         }
 
+    module _ (x : fixed (m .layout .kind) ≡ true) where
+      same : say t (record { owner = m; number = j; row = r }) (toZ w64 (ofZ w64 (getD vs j (pos 0)))) (toZ w64 (ofZ w64 (getD ws j (pos 0))))
+          ≡ lineFor 0x53 t (record { owner = m; number = j; row = r }) Whole (toZ w64 (ofZ w64 (getD ws j (pos 0))))
+      same = whole-said t m j r (toZ w64 (ofZ w64 (getD vs j (pos 0)))) (toZ w64 (ofZ w64 (getD ws j (pos 0)))) x put-exists e
+
+      pub put-listed-room : at + length (lineFor 0x53 t (record { owner = m; number = j; row = r }) Whole (toZ w64 (ofZ w64 (getD ws j (pos 0)))) ++ (0x0D ∷ [])) ≤ length after
+      put-listed-room = rw same at put-room
+
+      pub put-listed-line : (n : ℕ) (new : List ℕ)
+          → Wrote after at (lineFor 0x53 t (record { owner = m; number = j; row = r }) Whole (toZ w64 (ofZ w64 (getD ws j (pos 0)))) ++ (0x0D ∷ [])) n new
+          → RowsPut t m vs ws buffer start new n (j + 1)
+      put-listed-line n new w = put-line n new (rw same w)
+
 pub put-length : (t : List ℕ) (m : Module) (vs ws : List ℤ) (buffer : List ℕ) (start : ℕ) (after : List ℕ) (at j : ℕ) → RowsPut t m vs ws buffer start after at j → length after ≡ length buffer
 put-length t m vs ws buffer start after at j s = s .long
 
@@ -92,3 +109,5 @@ pub put-all : (t : List ℕ) (m : Module) (vs ws : List ℤ) (buffer : List ℕ)
 put-all t m vs ws buffer start after at j s l = rw (rows-all m vs ws j (s .done) (s .walk) l) (s .wrote)
 
 pub ruleset row-putting = (put-none, put-exists, put-wanted, put-equal, put-room, put-line, put-length, put-all)
+
+pub ruleset listed-putting = (put-none, put-exists, put-wanted, put-equal, put-listed-room, put-listed-line, put-length, put-all)

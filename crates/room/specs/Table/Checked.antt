@@ -1,16 +1,17 @@
 -- The check of a table, record by record.
 use mathlib.Core.Path.{_≡_, refl, sym, _∙_}
-use mathlib.Core.Bool.{Bool, true, false, not, _&&_}
+use mathlib.Core.Bool.{Bool, true, false, _&&_}
 use mathlib.Core.List.{List, [], _∷_}
 use Prim.Native.Nat.{ℕ, zero, suc, _+_, _-_, _≤_, _<_}
 use native.Mathlib.Numerals.{add-one}
 use native.Mathlib.Omega.{arith}
-use borrow.Author.Tests.{not-true, not-false}
-use lib.ListN.{length, getD, take, drop, length-take, length-drop, drop-of-length-le}
-use lib.Seq.{drop-cons, drop-drop}
+use lib.ListN.{length, getD, take, drop, length-drop, drop-of-length-le}
+use lib.Seq.{drop-cons, drop-drop, take-all}
+use mir.Syntax.{w64}
+use mir.Val.{Fits}
 use Rattle.room.specs.Table.{recordLimit, recordsSound, sound, tableNumber}
 use Rattle.record.specs.Body.{bodyLength, bodySound}
-use Rattle.record.specs.Body.Laws.{cut-short}
+use Rattle.record.specs.Body.Begun.{begun-size, begun-within, body-begun, none-begun, soundLength}
 
 -- the records before a place are sound, and as many may follow as are left
 pub record Checked (t : List ℕ) (place left : ℕ) : Type 0 where
@@ -33,35 +34,37 @@ checked-over t place left h l e =
     sym (r ∙ none-left (getD t place 0) (drop (suc place) t))
 
 module _ (t : List ℕ) (place left size : ℕ) (h : Checked t place left) (l : place < length t) (some : left ≡ 0 → ⊥)
-    (e : size ≡ bodyLength (getD t place 0)) where
-  one-more : sound t ≡ (bodySound (getD t place 0) (take size (drop (place + 1) t)) && recordsSound (left - 1) (drop (place + 1 + size) t))
+    (e : size ≡ soundLength (getD t place 0) (take (length t - (place + 1)) (drop (place + 1) t))) where
+  abbrev kind : ℕ
+  kind = getD t place 0
+
+  rest-is : size ≡ soundLength kind (drop (place + 1) t)
+  rest-is = rw (take-all (length t - (place + 1)) (drop (place + 1) t) (omega (arith, length-drop (place + 1) t))) at e
+
+  one-more : sound t ≡ (bodySound kind (take (bodyLength kind) (drop (place + 1) t)) && recordsSound (left - 1) (drop (place + 1 + bodyLength kind) t))
   unfolding recordsSound
   one-more =
       let n : left ≡ suc (left - 1) = omega arith in
-      rw (drop-cons t place 0, n, ← add-one place, ← e, drop-drop) at (h .rest)
+      rw (drop-cons t place 0, n, ← add-one place, drop-drop) at (h .rest)
 
-  -- a body cut short by the table's end
-  pub checked-short : length t - (place + 1) < size → false ≡ sound t
-  checked-short s =
-      let c : length (take size (drop (place + 1) t)) < size = omega (arith, length-take size (drop (place + 1) t), length-drop (place + 1) t) in
-      let b : bodySound (getD t place 0) (take size (drop (place + 1) t)) ≡ false =
-      cut-short (getD t place 0) (take size (drop (place + 1) t)) (omega arith) in
-      sym (one-more ∙ rw b)
+  -- a body that is not sound, or cut short by the table's end
+  pub checked-not : size ≡ 0 → false ≡ sound t
+  checked-not z = sym (one-more ∙ rw (none-begun kind size (drop (place + 1) t) rest-is z))
 
-  pub checked-not : (b : Bool) → b ≡ bodySound (getD t place 0) (take (place + 1 + size - (place + 1)) (drop (place + 1) t)) → not b ≡ true
-      → false ≡ sound t
-  checked-not b q n =
-      let k : place + 1 + size - (place + 1) ≡ size = omega arith in
-      let c : bodySound (getD t place 0) (take size (drop (place + 1) t)) ≡ false = rw k at (sym q ∙ not-true b n) in
-      sym (one-more ∙ rw c)
+  module _ (n : size ≡ 0 → ⊥) where
+    pub checked-within : place + 1 + size ≤ length t
+    checked-within = omega (arith, begun-within kind size (drop (place + 1) t) rest-is n, length-drop (place + 1) t)
 
-  pub checked-next : (b : Bool) → size ≤ length t - (place + 1)
-      → b ≡ bodySound (getD t place 0) (take (place + 1 + size - (place + 1)) (drop (place + 1) t)) → not b ≡ false
-      → Checked t (place + 1 + size) (left - 1)
-  checked-next b s q n =
-      let k : place + 1 + size - (place + 1) ≡ size = omega arith in
-      let c : bodySound (getD t place 0) (take size (drop (place + 1) t)) ≡ true = rw k at (sym q ∙ not-false b n) in
-      record { within = omega arith; few = omega arith; rest = one-more ∙ rw c }
+    pub checked-fits : Fits w64 (length t) → Fits w64 (place + 1 + size)
+    checked-fits f = record { fits = omega (arith, checked-within, f .fits) }
+
+    pub checked-next : Checked t (place + 1 + size) (left - 1)
+    checked-next =
+        record {
+          within = checked-within;
+          few = omega (arith, h .few);
+          rest = one-more ∙ rw (body-begun kind size (drop (place + 1) t) rest-is n, ← begun-size kind size (drop (place + 1) t) rest-is n);
+        }
 
 no-record : (left : ℕ) → recordsSound left [] ≡ true
 unfolding recordsSound
@@ -81,4 +84,4 @@ pub number-refused : (t : List ℕ) (b : Bool) → b ≡ sound t → b ≡ false
 unfolding tableNumber
 number-refused t b e h = let s : sound t ≡ false = sym e ∙ h in rw s
 
-pub ruleset checking = (checked-start, checked-over, checked-short, checked-not, checked-next, checked-all, number-sound, number-refused)
+pub ruleset checking = (checked-start, checked-over, checked-not, checked-within, checked-fits, checked-next, checked-all, number-sound, number-refused)

@@ -112,5 +112,8 @@ module-in t e n m h =
 pub module-known : (t : List ℕ) (n : ℕ) (m : Module) → ModuleIn t n m → knownLayout (m .layout) ≡ true
 module-known t n m h = rw (h .laid) (walk-known t (m .number) (m .place) (m .first) (h .walk) (h .inside))
 
+pub module-at-known : (t : List ℕ) → sound t ≡ true → (n : ℕ) (m : Module) → moduleAt (modules t) n ≡ At m → knownLayout (m .layout) ≡ true
+module-at-known t e n m h = module-known t n m (module-in t e n m h)
+
 pub module-room : (t : List ℕ) (n : ℕ) (m : Module) → ModuleIn t n m → m .place + 33 ≤ length t
 module-room t n m h = omega (arith, record-room t (m .number) (m .place) (m .first) (h .walk) (h .inside))

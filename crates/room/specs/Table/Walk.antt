@@ -11,15 +11,15 @@ use mir.Val.{Fits}
 use lib.Dec.{ltb}
 use lib.ListN.{length, getD, take, drop, length-take, length-drop, drop-of-length-le}
 use lib.Seq.{drop-cons, drop-drop}
-use Rattle.catalogue.specs.Catalogue.{knownLayout, rowLimit, rowsOf}
+use Rattle.catalogue.specs.Catalogue.{known, knownLayout, rowLimit, rowsOf}
 use Rattle.catalogue.specs.declared.layout.Layout.{Layout}
 use Rattle.text.specs.Every.Laws.{both-left, both-right}
-use Rattle.catalogue.specs.Catalogue.Laws.{rows-few}
+use Rattle.catalogue.specs.Catalogue.Laws.{known-kind, rows-few}
 use Rattle.room.specs.Table.{modules, modulesFrom, recordLimit, recordsSound, sound}
 use Rattle.record.specs.Body.{bodyLength, bodySound}
 use Rattle.record.specs.Body.Laws.{sound-body}
 use Rattle.record.specs.Layout.{layoutAt, layoutOf}
-use Rattle.record.specs.Layout.Laws.{layout-body, layout-here, layout-known}
+use Rattle.record.specs.Layout.Laws.{known-at, layout-body, layout-here, layout-known}
 use Rattle.room.specs.declared.table.Module.{Module}
 
 -- the modules from the record at a place on
@@ -87,9 +87,15 @@ module _ (t : List ℕ) (number place first : ℕ) (w : Walk t number place firs
   pub walk-known : knownLayout (layoutAt t place) ≡ true
   walk-known = rw (layout-here t place) (at-record .known)
 
+  pub walk-kind : known (getD t place 0) ≡ true
+  walk-kind = known-at t place walk-known
+
   -- also of the layout that code has read
   pub layout-walked : (l : Layout) → l ≡ layoutAt t place → knownLayout l ≡ true
   layout-walked l e = rw e walk-known
+
+  pub layout-known-kind : (l : Layout) → l ≡ layoutAt t place → known (l .kind) ≡ true
+  layout-known-kind l e = known-kind l (layout-walked l e)
 
   pub walk-room : (size : ℕ) → size ≡ bodyLength (getD t place 0) → place + 1 + size ≤ length t
   walk-room size e = omega (arith, at-record .room, length-drop (place + 1) t)
@@ -168,4 +174,4 @@ module _ (t : List ℕ) (P : (number place first : ℕ) → Type 0)
 pub layout-rows : (t : List ℕ) (place rows : ℕ) (l : Layout) → l ≡ layoutAt t place → rows ≡ length (rowsOf l) → rows ≡ length (rowsOf (layoutAt t place))
 layout-rows t place rows l e n = rw e at n
 
-pub ruleset walking = (walk-start, layout-walked, record-inside, layout-body, layout-rows, walk-room, walk-next, place-fits, first-fits)
+pub ruleset walking = (walk-start, walk-known, walk-kind, layout-walked, layout-known-kind, record-inside, layout-body, layout-rows, walk-room, walk-next, place-fits, first-fits)

@@ -6,6 +6,9 @@ use native.Mathlib.Omega.{arith}
 use lib.ListN.{length, take, drop}
 use Rattle.text.specs.Written.{Wrote}
 use Rattle.text.specs.Written.Laws.{wrote-join, room-first, room-second}
+use Rattle.spelling.specs.IndexText.Parts.{from-start, room-middle, room-third}
+use Rattle.catalogue.specs.Groups.{groupsOf}
+use Rattle.catalogue.specs.declared.groups.Part.{Part}
 use Rattle.room.specs.Label.{label}
 use Rattle.room.specs.Label.Length.{label-part, label-place}
 use Rattle.room.specs.declared.table.Module.{Module}
@@ -16,18 +19,6 @@ use Rattle.spelling.specs.IndexText.{indexText}
 -- a module's label between quotes
 unfoldable pub quotedText : List ℕ → Module → List ℕ
 quotedText t m = 0x22 ∷ (label t m ++ (0x22 ∷ []))
-
--- ---- three texts, one behind the other
-
-pub room-third : (a b c l : List ℕ) (at j i : ℕ) (m n : List ℕ) → at + length (a ++ (b ++ c)) ≤ length l → Wrote l at a j m → Wrote m j b i n
-    → i + length c ≤ length n
-room-third a b c l at j i m n h v w = room-second b c m j i n (room-second a (b ++ c) l at j m h v) w
-
-pub room-middle : (a b c l : List ℕ) (at j : ℕ) (m : List ℕ) → at + length (a ++ (b ++ c)) ≤ length l → Wrote l at a j m → j + length b ≤ length m
-room-middle a b c l at j m h v = room-first b c j (length m) (room-second a (b ++ c) l at j m h v)
-
-pub from-start : (n long : ℕ) → n ≤ long → 0 + n ≤ long
-from-start n long h = omega arith
 
 -- ---- the label
 
@@ -66,47 +57,47 @@ pub ruleset quoted-writing = (quoted-first, quoted-second, quoted-third, wrote-q
 
 -- ---- the name
 
-name-parts : (t : List ℕ) (p : Parameter) → name t p ≡ quotedText t (p .owner) ++ indexText (p .row .indices)
+name-parts : (t : List ℕ) (p : Parameter) (part : Part) → name t p part ≡ quotedText t (p .owner) ++ indexText (groupsOf (p .row .indices) part)
 unfolding name quotedText
-name-parts t p = simp append-assoc
+name-parts t p part = simp append-assoc
 
-module _ (t : List ℕ) (p : Parameter) (at : ℕ) where
-  pub name-first : (long : ℕ) → at + length (name t p) ≤ long → at + length (quotedText t (p .owner)) ≤ long
-  name-first long h = room-first (quotedText t (p .owner)) (indexText (p .row .indices)) at long (rw (name-parts t p) at h)
+module _ (t : List ℕ) (p : Parameter) (part : Part) (at : ℕ) where
+  pub name-first : (long : ℕ) → at + length (name t p part) ≤ long → at + length (quotedText t (p .owner)) ≤ long
+  name-first long h = room-first (quotedText t (p .owner)) (indexText (groupsOf (p .row .indices) part)) at long (rw (name-parts t p part) at h)
 
-  pub name-second : (j : ℕ) (l m : List ℕ) → at + length (name t p) ≤ length l → Wrote l at (quotedText t (p .owner)) j m
-      → j + length (indexText (p .row .indices)) ≤ length m
-  name-second j l m h w = room-second (quotedText t (p .owner)) (indexText (p .row .indices)) l at j m (rw (name-parts t p) at h) w
+  pub name-second : (j : ℕ) (l m : List ℕ) → at + length (name t p part) ≤ length l → Wrote l at (quotedText t (p .owner)) j m
+      → j + length (indexText (groupsOf (p .row .indices) part)) ≤ length m
+  name-second j l m h w = room-second (quotedText t (p .owner)) (indexText (groupsOf (p .row .indices) part)) l at j m (rw (name-parts t p part) at h) w
 
-  pub wrote-name : (j r : ℕ) (l m k : List ℕ) → Wrote l at (quotedText t (p .owner)) j m → Wrote m j (indexText (p .row .indices)) r k
-      → Wrote l at (name t p) r k
-  wrote-name j r l m k v w = rw (name-parts t p) (wrote-join v w)
+  pub wrote-name : (j r : ℕ) (l m k : List ℕ) → Wrote l at (quotedText t (p .owner)) j m → Wrote m j (indexText (groupsOf (p .row .indices) part)) r k
+      → Wrote l at (name t p part) r k
+  wrote-name j r l m k v w = rw (name-parts t p part) (wrote-join v w)
 
 pub ruleset name-writing = (name-first, name-second, wrote-name)
 
 -- ---- what stands before the value
 
-module _ (verb : ℕ) (t : List ℕ) (p : Parameter) (l : List ℕ) (room : length (front verb t p) ≤ length l) where
+module _ (verb : ℕ) (t : List ℕ) (p : Parameter) (part : Part) (l : List ℕ) (room : length (front verb t p part) ≤ length l) where
   pub front-first : 2 ≤ length l
   unfolding front
   front-first = omega arith
 
-  pub front-second : (j : ℕ) (m : List ℕ) → Wrote l 0 (verb ∷ 0x41 ∷ []) j m → j + length (name t p) ≤ length m
+  pub front-second : (j : ℕ) (m : List ℕ) → Wrote l 0 (verb ∷ 0x41 ∷ []) j m → j + length (name t p part) ≤ length m
   unfolding front
-  front-second j m w = room-middle (verb ∷ 0x41 ∷ []) (name t p) (0x3D ∷ []) l 0 j m (from-start _ (length l) room) w
+  front-second j m w = room-middle (verb ∷ 0x41 ∷ []) (name t p part) (0x3D ∷ []) l 0 j m (from-start _ (length l) room) w
 
-  pub front-third : (j i : ℕ) (m n : List ℕ) → Wrote l 0 (verb ∷ 0x41 ∷ []) j m → Wrote m j (name t p) i n → i + 1 ≤ length n
+  pub front-third : (j i : ℕ) (m n : List ℕ) → Wrote l 0 (verb ∷ 0x41 ∷ []) j m → Wrote m j (name t p part) i n → i + 1 ≤ length n
   unfolding front
-  front-third j i m n v w = room-third (verb ∷ 0x41 ∷ []) (name t p) (0x3D ∷ []) l 0 j i m n (from-start _ (length l) room) v w
+  front-third j i m n v w = room-third (verb ∷ 0x41 ∷ []) (name t p part) (0x3D ∷ []) l 0 j i m n (from-start _ (length l) room) v w
 
-pub wrote-front : (verb : ℕ) (t : List ℕ) (p : Parameter) (l : List ℕ) (j i r : ℕ) (m n k : List ℕ) → Wrote l 0 (verb ∷ 0x41 ∷ []) j m → Wrote m j (name t p) i n
-    → Wrote n i (0x3D ∷ []) r k → Wrote l 0 (front verb t p) r k
+pub wrote-front : (verb : ℕ) (t : List ℕ) (p : Parameter) (part : Part) (l : List ℕ) (j i r : ℕ) (m n k : List ℕ) → Wrote l 0 (verb ∷ 0x41 ∷ []) j m → Wrote m j (name t p part) i n
+    → Wrote n i (0x3D ∷ []) r k → Wrote l 0 (front verb t p part) r k
 unfolding front
-wrote-front verb t p l j i r m n k u v w = wrote-join u (wrote-join v w)
+wrote-front verb t p part l j i r m n k u v w = wrote-join u (wrote-join v w)
 
 -- every verb is as long
-pub same-front : (verb other : ℕ) (t : List ℕ) (p : Parameter) → length (front verb t p) ≡ length (front other t p)
+pub same-front : (verb other : ℕ) (t : List ℕ) (p : Parameter) (part : Part) → length (front verb t p part) ≡ length (front other t p part)
 unfolding front
-same-front verb other t p = refl
+same-front verb other t p part = refl
 
 pub ruleset front-writing = (front-first, front-second, front-third, wrote-front)

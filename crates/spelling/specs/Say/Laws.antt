@@ -1,46 +1,75 @@
--- Laws of the set line: what it is made of, how long it is, and that it is a byte sequence.
-use mathlib.Core.Path.{_≡_}
-use mathlib.Core.Bool.{true}
-use mathlib.Core.List.{List, _∷_, _++_}
-use Prim.Native.Nat.{ℕ, _+_}
+-- The set line of the restore list is the line that sets a part; which part that is.
+use mathlib.Core.Path.{_≡_, refl}
+use mathlib.Core.List.{List, [], _∷_}
+use Prim.Native.Nat.{ℕ, zero, suc, _≤_}
 use native.Mathlib.Omega.{arith}
-use lib.IntN.{ℤ}
-use lib.ListN.{length, length-append}
-use Rattle.text.specs.Byte.{isByte}
-use Rattle.text.specs.Byte.Laws.{byte-first}
-use Rattle.text.specs.Byte.Values.{are-bytes}
-use Rattle.text.specs.Every.{every}
-use Rattle.text.specs.Every.Laws.{every-append}
-use Rattle.room.specs.Label.{label}
+use lib.IntN.{ℤ, natAbs}
+use Rattle.text.specs.Word.{differing, onlyDiffering}
+use Rattle.text.specs.Word.Apart as word
+use Rattle.text.specs.Word.Apart.{only-told}
+use Rattle.catalogue.specs.Groups.{PartIn}
+use Rattle.catalogue.specs.declared.groups.Part.{Part}
+use Rattle.catalogue.specs.declared.groups.Part.the-variants.{Whole, Output}
+use Rattle.catalogue.specs.declared.row.Kind.{Kind}
+use Rattle.catalogue.specs.declared.row.Kind.the-variants as kind
 use Rattle.values.specs.declared.parameter.Parameter.{Parameter}
-use Rattle.spelling.specs.IndexText.{indexText}
-use Rattle.spelling.specs.IndexText.Laws.{indices-bytes}
-use Rattle.spelling.specs.Line.Laws.{line-spelled}
-use Rattle.spelling.specs.Say.{say}
-use Rattle.spelling.specs.Text.{textOf}
-use Rattle.spelling.specs.Text.Laws.{text-bytes}
+use Rattle.spelling.specs.Line.{lineFor}
+use Rattle.spelling.specs.Say.{outputOr, say, saidPart}
 
-module _ (t : List ℕ) (p : Parameter) (v x : ℤ) where
-  abbrev of : List ℕ
-  of = label t (p .owner)
+pub say-line : (t : List ℕ) (p : Parameter) (v x : ℤ) → say t p v x ≡ lineFor 0x53 t p (saidPart (p .row .kind) v x) x
+unfolding say
+say-line t p v x = refl
 
-  abbrev indices : List ℕ
-  indices = indexText (p .row .indices)
+-- ---- which part
 
-  abbrev text : List ℕ
-  text = textOf (p .row .kind) x
+-- the whole, but of a routing word in which one output alone differs that output
+pub data SaidBy (k : Kind) (v x : ℤ) : Part → Type 0 where
+  plain : (k ≡ kind.Word → ⊥) → SaidBy k v x Whole
+  same : k ≡ kind.Word → differing (natAbs v) (natAbs x) ≡ [] → SaidBy k v x Whole
+  alone : (o : ℕ) → k ≡ kind.Word → 1 ≤ o → o ≤ 32 → differing (natAbs v) (natAbs x) ≡ o ∷ [] → SaidBy k v x (Output o)
+  more : (o q : ℕ) (os : List ℕ) → k ≡ kind.Word → differing (natAbs v) (natAbs x) ≡ o ∷ q ∷ os → SaidBy k v x Whole
 
-  -- `SA`, the label between quotes, the indices, `=` and the value's text
-  pub say-spelled : say t p v x ≡ 0x53 ∷ 0x41 ∷ 0x22 ∷ (label t (p .owner) ++ (0x22 ∷ (indexText (p .row .indices) ++ (0x3D ∷ textOf (p .row .kind) x))))
-  unfolding say
-  say-spelled = line-spelled 0x53 t p x
+pub said-by : (k : Kind) (v x : ℤ) → SaidBy k v x (saidPart k v x)
+unfolding saidPart outputOr
+said-by kind.Level v x = plain (λ e. let z : _≡_ {A = ℕ} 0 1 = cc in omega arith)
+said-by kind.Switch v x = plain (λ e. let z : _≡_ {A = ℕ} 0 1 = cc in omega arith)
+said-by kind.Number v x = plain (λ e. let z : _≡_ {A = ℕ} 0 1 = cc in omega arith)
+said-by kind.Word v x = go (only-told (natAbs v) (natAbs x))
+  where
+    go : {o : ℕ} → word.Differ (natAbs v) (natAbs x) o → SaidBy kind.Word v x (outputOr o)
+    go (word.same e) = same refl e
+    go (word.alone zero l m e) = absurd (omega arith)
+    go (word.alone (suc o) l m e) = alone (suc o) refl l m e
+    go (word.more o q os e) = more o q os refl e
 
-  pub say-length : length (say t p v x) ≡ 5 + length (label t (p .owner)) + length (indexText (p .row .indices)) + length (textOf (p .row .kind) x)
-  say-length = rw say-spelled (simp length-append (omega arith))
+-- what is not a routing word is said whole
+pub said-whole : (k : Kind) (v x : ℤ) → (k ≡ kind.Word → ⊥) → saidPart k v x ≡ Whole
+unfolding saidPart
+said-whole kind.Level v x h = refl
+said-whole kind.Switch v x h = refl
+said-whole kind.Number v x h = refl
+said-whole kind.Word v x h = absurd (h refl)
 
-  pub say-bytes : every isByte (label t (p .owner)) ≡ true → every isByte (say t p v x) ≡ true
-  say-bytes h =
-      let valued = byte-first 0x3D text (omega arith) (are-bytes text (text-bytes (p .row .kind) x)) in
-      let named = byte-first 0x22 (indices ++ (0x3D ∷ text)) (omega arith) (every-append isByte indices (0x3D ∷ text) (indices-bytes (p .row .indices)) valued) in
-      let quoted = every-append isByte of (0x22 ∷ (indices ++ (0x3D ∷ text))) h named in
-      rw say-spelled (byte-first 0x53 _ (omega arith) (byte-first 0x41 _ (omega arith) (byte-first 0x22 _ (omega arith) quoted)))
+whole-in : PartIn Whole
+whole-in =
+    record {
+      some = λ o e. absurd (let z : _≡_ {A = ℕ} 0 1 = cc in omega arith);
+      most = λ o e. absurd (let z : _≡_ {A = ℕ} 0 1 = cc in omega arith);
+    }
+
+output-in : (o : ℕ) → 1 ≤ o → o ≤ 32 → PartIn (Output o)
+output-in o l m =
+    record {
+      some = λ q e. let f : o ≡ q = cc in omega arith;
+      most = λ q e. let f : o ≡ q = cc in omega arith;
+    }
+
+-- an output that is said is one of 32
+pub said-in : (k : Kind) (v x : ℤ) → PartIn (saidPart k v x)
+said-in k v x = go (said-by k v x)
+  where
+    go : {part : Part} → SaidBy k v x part → PartIn part
+    go (plain h) = whole-in
+    go (same h e) = whole-in
+    go (alone o h l m e) = output-in o l m
+    go (more o q os h e) = whole-in

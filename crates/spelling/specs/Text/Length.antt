@@ -14,6 +14,7 @@ use Rattle.text.specs.Level.{levelText}
 use Rattle.text.specs.Level.Length.{level-short, zero-shortest as level-zero}
 use Rattle.text.specs.Level.Sign.{kept, kept-size-fits}
 use Rattle.text.specs.Switch.Laws.{switch-length}
+use Rattle.text.specs.Word.Text.{word-length}
 use Rattle.catalogue.specs.declared.row.Kind.{Kind}
 use Rattle.catalogue.specs.declared.row.Kind.the-variants as kind
 use Rattle.spelling.specs.Text.{textOf}
@@ -40,7 +41,11 @@ pub switch-text-is : (k : Kind) (v : ℤ) → k ≡ kind.Switch → 1 ≡ length
 unfolding textOf
 switch-text-is k v e = rw e (sym (switch-length (natAbs v)))
 
-pub ruleset text-lengths = (level-text-is, level-text-short, number-text-is, number-text-short, switch-text-is)
+pub word-text-is : (k : Kind) (v : ℤ) → k ≡ kind.Word → 8 ≡ length (textOf k v)
+unfolding textOf
+word-text-is k v e = rw e (sym (word-length (natAbs v)))
+
+pub ruleset text-lengths = (level-text-is, level-text-short, number-text-is, number-text-short, switch-text-is, word-text-is)
 
 -- no value of a kind has a shorter text than 0
 pub zero-shortest : (k : Kind) (v : ℤ) → length (textOf k (pos 0)) ≤ length (textOf k v)
@@ -48,3 +53,4 @@ unfolding textOf
 zero-shortest kind.Level v = level-zero v
 zero-shortest kind.Switch v = omega (arith, switch-length 0, switch-length (natAbs v))
 zero-shortest kind.Number v = omega (arith, digits-short 0 1 (omega arith) (omega arith), some-digits (natAbs v))
+zero-shortest kind.Word v = omega (arith, word-length 0, word-length (natAbs v))

@@ -14,6 +14,8 @@ use Rattle.text.specs.Level.{levelText}
 use Rattle.text.specs.Level.Sign.{kept}
 use Rattle.text.specs.Switch.{switchText}
 use Rattle.text.specs.Switch.Laws.{switch-length}
+use Rattle.text.specs.Word.{hexText}
+use Rattle.text.specs.Word.Text.{word-length}
 use Rattle.text.specs.Written.{Wrote}
 use Rattle.catalogue.specs.declared.row.Kind.{Kind}
 use Rattle.catalogue.specs.declared.row.Kind.the-variants as kind
@@ -31,6 +33,13 @@ module _ (k : Kind) (v : ℤ) (at : ℕ) (f : SFits w64 v) where
   pub number-room : (size long : ℕ) → k ≡ kind.Number → size ≡ natAbs (kept v) → at + length (textOf k v) ≤ long → at + length (digits size) ≤ long
   unfolding textOf
   number-room size long e s h = rw (s, toZ-ofZ f) (rw e at h)
+
+  -- words have one length, so that another word is refused for its bytes
+  pub word-room : (size long : ℕ) → k ≡ kind.Word → at + length (textOf k v) ≤ long → at + length (hexText size) ≤ long
+  unfolding textOf
+  word-room size long e h =
+      let r = rw e at h in
+      omega (arith, word-length size, word-length (natAbs v))
 
   -- where there is room for a number there is for a switch, so that a number written as one is refused for its bytes
   pub letter-room : (size long : ℕ) → k ≡ kind.Number → at + length (textOf k v) ≤ long → at + length (switchText size) ≤ long
@@ -51,4 +60,8 @@ module _ (k : Kind) (v : ℤ) (at : ℕ) (f : SFits w64 v) where
   unfolding textOf
   wrote-number size r l m e s w = rw e (rw (s, toZ-ofZ f) at w)
 
-pub ruleset text-writing = (level-room, switch-room, number-room, letter-room, wrote-level, wrote-switch, wrote-number)
+  pub wrote-word : (size r : ℕ) (l m : List ℕ) → k ≡ kind.Word → size ≡ natAbs (kept v) → Wrote l at (hexText size) r m → Wrote l at (textOf k v) r m
+  unfolding textOf
+  wrote-word size r l m e s w = rw e (rw (s, toZ-ofZ f) at w)
+
+pub ruleset text-writing = (level-room, switch-room, number-room, word-room, letter-room, wrote-level, wrote-switch, wrote-number, wrote-word)

@@ -8,50 +8,50 @@ use borrow.Author.Tests.{eqb-true}
 use lib.Dec.{eqb}
 use Rattle.text.specs.Cut.{has, before, after}
 use Rattle.text.specs.Cut.Lacking.{after-joined, before-joined, has-joined, has-not, parts-joined}
-use Rattle.text.specs.Number.{readNumber}
-use Rattle.text.specs.Number.Bytes.{number-lacks}
-use Rattle.text.specs.declared.number.Number.{Number}
-use Rattle.text.specs.declared.number.Number.the-variants as read
-use Rattle.catalogue.specs.declared.row.Indices.{Indices}
-use Rattle.catalogue.specs.declared.row.Indices.the-variants.{OneGroup, TwoGroups}
+use Rattle.catalogue.specs.declared.groups.Group.{Group}
+use Rattle.catalogue.specs.declared.groups.Groups.{Groups}
+use Rattle.catalogue.specs.declared.groups.Groups.the-variants.{OneGroup, TwoGroups}
+use Rattle.syntax.specs.IndexGroup.{readGroup}
+use Rattle.syntax.specs.IndexGroup.Laws.{GroupSays, group-told, group-said, group-lacks}
+use Rattle.syntax.specs.declared.index_group.GroupText.{GroupText}
+use Rattle.syntax.specs.declared.index_group.GroupText.the-variants as group
 use Rattle.syntax.specs.IndexPart.{oneGroup, twoGroups, groups, readIndices}
 use Rattle.syntax.specs.declared.index_part.IndexPart.the-variants.{Right, Wrong}
 
--- the numbers after one `>`, or after two
-pub data Says (s : List ℕ) : Indices → Type 0 where
-  one : (u : List ℕ) (a : ℕ) → s ≡ 0x3E ∷ u → readNumber 3 u ≡ read.Value a → Says s (OneGroup a)
-  two : (u w : List ℕ) (a b : ℕ) → s ≡ 0x3E ∷ (u ++ (0x3E ∷ w)) → readNumber 3 u ≡ read.Value a → readNumber 3 w ≡ read.Value b → Says s (TwoGroups a b)
+-- the group after one `>`, or the groups after two
+pub data Says (s : List ℕ) : Groups → Type 0 where
+  one : (u : List ℕ) (g : Group) → s ≡ 0x3E ∷ u → GroupSays u g → Says s (OneGroup g)
+  two : (u w : List ℕ) (g h : Group) → s ≡ 0x3E ∷ (u ++ (0x3E ∷ w)) → GroupSays u g → GroupSays w h → Says s (TwoGroups g h)
 
 -- ---- what an index part that is right says
 
-wrong {ℓ} : {A : Type ℓ} (i : Indices) → Wrong ≡ Right i → A
+wrong {ℓ} : {A : Type ℓ} (i : Groups) → Wrong ≡ Right i → A
 wrong i h = absurd (let z : _≡_ {A = ℕ} 0 1 = cc in omega arith)
 
-one-told : (s u : List ℕ) (i : Indices) (n : Number) → s ≡ 0x3E ∷ u → readNumber 3 u ≡ n → oneGroup n ≡ Right i → Says s i
+one-told : (s u : List ℕ) (i : Groups) (x : GroupText) → s ≡ 0x3E ∷ u → readGroup u ≡ x → oneGroup x ≡ Right i → Says s i
 unfolding oneGroup
-one-told s u i (read.Value a) p e h = let q : OneGroup a ≡ i = cc in rw q at (one u a p e)
-one-told s u i read.Wrong p e h = wrong i h
+one-told s u i (group.Right g) p e k = let q : OneGroup g ≡ i = cc in rw q at (one u g p (group-told u g e))
+one-told s u i group.Wrong p e k = wrong i k
 
-two-told : (s u w : List ℕ) (i : Indices) (m n : Number) → s ≡ 0x3E ∷ (u ++ (0x3E ∷ w)) → readNumber 3 u ≡ m → readNumber 3 w ≡ n → twoGroups m n ≡ Right i
-    → Says s i
+two-told : (s u w : List ℕ) (i : Groups) (x y : GroupText) → s ≡ 0x3E ∷ (u ++ (0x3E ∷ w)) → readGroup u ≡ x → readGroup w ≡ y → twoGroups x y ≡ Right i → Says s i
 unfolding twoGroups
-two-told s u w i (read.Value a) (read.Value b) p e f h = let q : TwoGroups a b ≡ i = cc in rw q at (two u w a b p e f)
-two-told s u w i (read.Value a) read.Wrong p e f h = wrong i h
-two-told s u w i read.Wrong (read.Value b) p e f h = wrong i h
-two-told s u w i read.Wrong read.Wrong p e f h = wrong i h
+two-told s u w i (group.Right g) (group.Right h) p e f k = let q : TwoGroups g h ≡ i = cc in rw q at (two u w g h p (group-told u g e) (group-told w h f))
+two-told s u w i (group.Right g) group.Wrong p e f k = wrong i k
+two-told s u w i group.Wrong (group.Right h) p e f k = wrong i k
+two-told s u w i group.Wrong group.Wrong p e f k = wrong i k
 
-groups-told : (s u : List ℕ) (i : Indices) → s ≡ 0x3E ∷ u → groups u ≡ Right i → Says s i
+groups-told : (s u : List ℕ) (i : Groups) → s ≡ 0x3E ∷ u → groups u ≡ Right i → Says s i
 unfolding groups
 groups-told s u i p h = go (has 0x3E u) refl h
   where
     go : (b : Bool) → has 0x3E u ≡ b
-        → cond b (twoGroups (readNumber 3 (before 0x3E u)) (readNumber 3 (after 0x3E u))) (oneGroup (readNumber 3 u)) ≡ Right i → Says s i
+        → cond b (twoGroups (readGroup (before 0x3E u)) (readGroup (after 0x3E u))) (oneGroup (readGroup u)) ≡ Right i → Says s i
     go true t h =
         let q : s ≡ 0x3E ∷ (before 0x3E u ++ (0x3E ∷ after 0x3E u)) = p ∙ ap (λ l. 0x3E ∷ l) (parts-joined 0x3E u t) in
-        two-told s (before 0x3E u) (after 0x3E u) i (readNumber 3 (before 0x3E u)) (readNumber 3 (after 0x3E u)) q refl refl h
-    go false t h = one-told s u i (readNumber 3 u) p refl h
+        two-told s (before 0x3E u) (after 0x3E u) i (readGroup (before 0x3E u)) (readGroup (after 0x3E u)) q refl refl h
+    go false t h = one-told s u i (readGroup u) p refl h
 
-pub indices-told : (s : List ℕ) (i : Indices) → readIndices s ≡ Right i → Says s i
+pub indices-told : (s : List ℕ) (i : Groups) → readIndices s ≡ Right i → Says s i
 unfolding readIndices
 indices-told [] i h = wrong i h
 indices-told (b ∷ u) i h = go (eqb b 0x3E) refl h
@@ -60,11 +60,11 @@ indices-told (b ∷ u) i h = go (eqb b 0x3E) refl h
     go true t h = groups-told (b ∷ u) u i (ap (λ x. x ∷ u) (eqb-true b 0x3E t)) h
     go false t h = wrong i h
 
--- ---- an index part that says indices is right
+-- ---- an index part that says groups is right
 
-pub indices-said : (s : List ℕ) (i : Indices) → Says s i → readIndices s ≡ Right i
+pub indices-said : (s : List ℕ) (i : Groups) → Says s i → readIndices s ≡ Right i
 unfolding readIndices groups oneGroup twoGroups
-indices-said s i (one u a p e) = rw (p, has-not 0x3E u (number-lacks 3 0x3E u a (omega arith) e), e)
-indices-said s i (two u w a b p e f) =
-    let n = number-lacks 3 0x3E u a (omega arith) e in
-    rw (p, has-joined 0x3E u w n, before-joined 0x3E u w n, after-joined 0x3E u w n, e, f)
+indices-said s i (one u g p e) = rw (p, has-not 0x3E u (group-lacks u g e), group-said u g e)
+indices-said s i (two u w g h p e f) =
+    let n = group-lacks u g e in
+    rw (p, has-joined 0x3E u w n, before-joined 0x3E u w n, after-joined 0x3E u w n, group-said u g e, group-said w h f)

@@ -1,5 +1,5 @@
 -- Rules for the code that reads an index part.
-use mathlib.Core.Path.{_≡_, refl, sym, _∙_}
+use mathlib.Core.Path.{_≡_, refl, ap, sym, _∙_}
 use mathlib.Core.List.{List, [], _∷_}
 use Prim.Native.Nat.{ℕ, suc, _+_, _-_, _<_, _≤_}
 use native.Mathlib.Omega.{arith}
@@ -11,55 +11,68 @@ use Rattle.text.specs.Cut.Found.{after-found, before-found, has-found, has-none
 use Rattle.text.specs.Number.{readNumber}
 use Rattle.text.specs.declared.number.Number.{Number}
 use Rattle.text.specs.declared.number.Number.the-variants as read
-use Rattle.catalogue.specs.declared.row.Indices.the-variants.{OneGroup, TwoGroups}
+use Rattle.catalogue.specs.declared.groups.Group.{Group}
+use Rattle.catalogue.specs.declared.groups.Group.the-variants.{Single}
+use Rattle.catalogue.specs.declared.groups.Groups.the-variants.{OneGroup, TwoGroups}
+use Rattle.syntax.specs.IndexGroup.{readGroup, readPair}
+use Rattle.syntax.specs.IndexGroup.Reading.{a-number, a-pair, cut-length}
+use Rattle.syntax.specs.declared.index_group.GroupText.{GroupText}
+use Rattle.syntax.specs.declared.index_group.GroupText.the-variants as group
 use Rattle.syntax.specs.IndexPart.{oneGroup, twoGroups, groups, readIndices}
 use Rattle.syntax.specs.declared.index_part.IndexPart.{IndexPart}
 use Rattle.syntax.specs.declared.index_part.IndexPart.the-variants.{Right, Wrong}
 
 -- ---- one group, two groups
 
-pub one-right : (s : List ℕ) (m : Number) (a : ℕ) → m ≡ readNumber 3 s → m ≡ read.Value a → Right (OneGroup a) ≡ oneGroup (readNumber 3 s)
+pub one-right : (s : List ℕ) (x : GroupText) (g : Group) → x ≡ readPair s → x ≡ group.Right g → Right (OneGroup g) ≡ oneGroup (readPair s)
 unfolding oneGroup
-one-right s m a e h = rw (sym e ∙ h)
+one-right s x g e k = rw (sym e ∙ k)
 
-pub one-wrong : (s : List ℕ) (m : Number) → m ≡ readNumber 3 s → m ≡ read.Wrong → Wrong ≡ oneGroup (readNumber 3 s)
+pub one-wrong : (s : List ℕ) (x : GroupText) → x ≡ readPair s → x ≡ group.Wrong → Wrong ≡ oneGroup (readPair s)
 unfolding oneGroup
-one-wrong s m e h = rw (sym e ∙ h)
+one-wrong s x e k = rw (sym e ∙ k)
 
-module _ (s u : List ℕ) (m : Number) (e : m ≡ readNumber 3 s) where
-  pub two-right : (n : Number) (a b : ℕ) → n ≡ readNumber 3 u → m ≡ read.Value a → n ≡ read.Value b
-      → Right (TwoGroups a b) ≡ twoGroups (readNumber 3 s) (readNumber 3 u)
-  unfolding twoGroups
-  two-right n a b f h g = rw (sym e ∙ h, sym f ∙ g)
+module _ (s : List ℕ) (n : Number) (e : n ≡ readNumber 3 s) where
+  pub one-number : (a : ℕ) → n ≡ read.Value a → Right (OneGroup (Single a)) ≡ oneGroup (readGroup s)
+  unfolding oneGroup
+  one-number a h = rw (sym (a-number s n e a h))
 
-  pub second-wrong : (n : Number) (a : ℕ) → n ≡ readNumber 3 u → m ≡ read.Value a → n ≡ read.Wrong
-      → Wrong ≡ twoGroups (readNumber 3 s) (readNumber 3 u)
-  unfolding twoGroups
-  second-wrong n a f h g = rw (sym e ∙ h, sym f ∙ g)
+  pub one-pair : (r : IndexPart) → n ≡ read.Wrong → r ≡ oneGroup (readPair s) → r ≡ oneGroup (readGroup s)
+  one-pair r h q = q ∙ ap oneGroup (a-pair s n e (readPair s) h refl)
 
-  pub first-wrong : m ≡ read.Wrong → Wrong ≡ twoGroups (readNumber 3 s) (readNumber 3 u)
+module _ (s u : List ℕ) (x : GroupText) (e : x ≡ readGroup s) where
+  pub two-right : (y : GroupText) (g h : Group) → y ≡ readGroup u → x ≡ group.Right g → y ≡ group.Right h
+      → Right (TwoGroups g h) ≡ twoGroups (readGroup s) (readGroup u)
   unfolding twoGroups
-  first-wrong h = rw (sym e ∙ h) (go (readNumber 3 u))
+  two-right y g h f k l = rw (sym e ∙ k, sym f ∙ l)
+
+  pub second-wrong : (y : GroupText) (g : Group) → y ≡ readGroup u → x ≡ group.Right g → y ≡ group.Wrong
+      → Wrong ≡ twoGroups (readGroup s) (readGroup u)
+  unfolding twoGroups
+  second-wrong y g f k l = rw (sym e ∙ k, sym f ∙ l)
+
+  pub first-wrong : x ≡ group.Wrong → Wrong ≡ twoGroups (readGroup s) (readGroup u)
+  unfolding twoGroups
+  first-wrong k = rw (sym e ∙ k) (go (readGroup u))
     where
-      go : (n : Number) → Wrong ≡ twoGroups read.Wrong n
-      go (read.Value b) = refl
-      go read.Wrong = refl
+      go : (y : GroupText) → Wrong ≡ twoGroups group.Wrong y
+      go (group.Right h) = refl
+      go group.Wrong = refl
 
-pub ruleset one-rules = (one-right, one-wrong)
+pub ruleset one-rules = (one-number, one-pair)
+
+pub ruleset pair-rules = (one-right, one-wrong)
 
 pub ruleset two-rules = (two-right, second-wrong, first-wrong)
 
 -- ---- behind the first `>`
 
-pub cut-length : (s : List ℕ) (i : ℕ) → i < length s → i ≡ length (take i s)
-cut-length s i l = simp length-take (omega arith)
-
 pub parted : (s : List ℕ) (i : ℕ) (r : IndexPart) → i ≡ indexOf 0x3E s → i < length s
-    → r ≡ twoGroups (readNumber 3 (take i s)) (readNumber 3 (take (length s - (i + 1)) (drop (i + 1) s))) → r ≡ groups s
+    → r ≡ twoGroups (readGroup (take i s)) (readGroup (take (length s - (i + 1)) (drop (i + 1) s))) → r ≡ groups s
 unfolding groups
 parted s i r e l h = h ∙ rw (has-found 0x3E s i e l, before-found 0x3E s i e, after-found 0x3E s i e)
 
-pub whole : (s : List ℕ) (i : ℕ) (r : IndexPart) → i ≡ indexOf 0x3E s → length s ≤ i → r ≡ oneGroup (readNumber 3 s) → r ≡ groups s
+pub whole : (s : List ℕ) (i : ℕ) (r : IndexPart) → i ≡ indexOf 0x3E s → length s ≤ i → r ≡ oneGroup (readGroup s) → r ≡ groups s
 unfolding groups
 whole s i r e l h = h ∙ rw (has-none 0x3E s i e l)
 

@@ -82,6 +82,18 @@ first-to (suc n) v w o os e = go (stepped n v w) (first-to n v w o os)
         let g : suc n ≡ o = cc in
         (omega arith, omega arith)
 
+-- what is told differs
+differs-to : (n v w o : ℕ) (os : List ℕ) → differingTo n v w ≡ o ∷ os → bit o v ≡ bit o w → ⊥
+differs-to zero v w o os e = not-none o os (sym e ∙ to-none v w)
+differs-to (suc n) v w o os e = go (stepped n v w) (differs-to n v w o os)
+  where
+    go : Step n v w → (differingTo n v w ≡ o ∷ os → bit o v ≡ bit o w → ⊥) → bit o v ≡ bit o w → ⊥
+    go (alike b d) ih h = ih (sym d ∙ e) h
+    go (unlike b d) ih h =
+        let f : suc n ∷ differingTo n v w ≡ o ∷ os = sym d ∙ e in
+        let g : suc n ≡ o = cc in
+        b (rw g h)
+
 -- output o, or none
 pub data OnlyAt (o : ℕ) : List ℕ → Type 0 where
   nowhere : OnlyAt o []
@@ -104,6 +116,11 @@ only-to (suc n) o v w h = go (stepped n v w) (eqb o (suc n)) refl (only-to n o v
 pub differ-not : (v w : ℕ) → v ≡ w → differing v w ≡ []
 unfolding differing
 differ-not v w e = none-to 32 v w (λ o l m. ap (bit o) e)
+
+-- an output in which two words differ
+pub differ-at : (v w o : ℕ) (os : List ℕ) → differing v w ≡ o ∷ os → bit o v ≡ bit o w → ⊥
+unfolding differing
+differ-at v w o os e = differs-to 32 v w o os e
 
 module _ (v w : ℕ) (p : v < 2 ^ 32) (q : w < 2 ^ 32) where
   -- words that differ nowhere are the same

@@ -1,5 +1,5 @@
 -- Laws of the parameter lists: the parameters of a module by their numbers, and lists one after the other.
-use mathlib.Core.Path.{_≡_, refl, ap, _∙_}
+use mathlib.Core.Path.{_≡_, refl, ap, sym, _∙_}
 use mathlib.Core.List.{List, [], _∷_, _++_}
 use Prim.Native.Nat.{ℕ, zero, suc, _+_, _<_}
 use native.Mathlib.Nat.{add-zero, zero-add, le-of-suc-le-suc, not-suc-le-zero}
@@ -44,6 +44,28 @@ pub parametersOf-cons : (m : Module) (j : ℕ) → j < length (rowsOf (m .layout
 parametersOf-cons m j h =
     let l : j < length (parametersOf m) = omega (arith, length-parametersOf m) in
     drop-cons (parametersOf m) j (parameterOf m j) l ∙ rw (add-one, parametersOf-at m (parameterOf m j) j h)
+
+-- the row of parameter j of a module is the module's row j
+pub record OwnRow (m : Module) (j : ℕ) (p : Parameter) : Type 0 where
+  pub inside : j < length (rowsOf (m .layout))
+  pub row : p .row ≡ rowOf (m .layout) j
+
+own-inside : (ps : List Parameter) (j : ℕ) (p : Parameter) → parameterAt ps j ≡ At p → j < length ps
+unfolding parameterAt
+own-inside [] j p e = absurd (let z : _≡_ {A = ℕ} 0 1 = cc in omega arith)
+own-inside (q ∷ ps) zero p e = omega arith
+own-inside (q ∷ ps) (suc j) p e = let h = own-inside ps j p e in omega arith
+
+own-at : (ps : List Parameter) (j : ℕ) (p : Parameter) → parameterAt ps j ≡ At p → getD ps j p ≡ p
+unfolding parameterAt
+own-at [] j p e = refl
+own-at (q ∷ ps) zero p e = cc
+own-at (q ∷ ps) (suc j) p e = own-at ps j p e
+
+pub own-row : (m : Module) (j : ℕ) (p : Parameter) → parameterAt (parametersOf m) j ≡ At p → OwnRow m j p
+own-row m j p e =
+    let i : j < length (rowsOf (m .layout)) = omega (arith, own-inside (parametersOf m) j p e, length-parametersOf m) in
+    record { inside = i; row = ap (λ q. q .row) (sym (own-at (parametersOf m) j p e) ∙ parametersOf-at m p j i) }
 
 -- ---- a parameter by its place in two lists, one after the other
 

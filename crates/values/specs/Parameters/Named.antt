@@ -2,18 +2,22 @@
 use mathlib.Core.Path.{_≡_, refl, ap, sym, _∙_}
 use mathlib.Core.Bool.{Bool, true, false, cond}
 use mathlib.Core.List.{List, [], _∷_}
-use Prim.Native.Nat.{ℕ, zero, suc, _+_}
+use Prim.Native.Nat.{ℕ, zero, suc, _+_, _<_}
 use native.Mathlib.Nat.{zero-add}
-use Rattle.catalogue.specs.Catalogue.{rowsOf}
+use Rattle.catalogue.specs.Catalogue.{knownLayout, rowsOf}
 use Rattle.text.specs.Every.Laws.{every-both, pairs-both}
 use Rattle.text.specs.Every.{every, pairs}
-use Rattle.catalogue.specs.Catalogue.Distinct.{differ-indices, rowsDiffer, type-distinct}
-use Rattle.catalogue.specs.Catalogue.Sized.{sizedRow, type-sized}
+use Rattle.catalogue.specs.Catalogue.Distinct.{differ-indices, rowsDiffer}
+use Rattle.catalogue.specs.Catalogue.Modules.{type-distinct, type-sized}
+use Rattle.catalogue.specs.Catalogue.Routed.{Routed, row-routed}
+use Rattle.catalogue.specs.Catalogue.Sized.{sizedRow}
 use Rattle.catalogue.specs.Row.{sameIndices}
 use Rattle.catalogue.specs.Row.Comparing.{same-indices, same-indices-refl}
-use Rattle.values.specs.Parameters.{numbered, parametersOf, parameterAt, withIndices, named}
+use Rattle.values.specs.Parameters.{numbered, parametersOf, parameterAt, withIndices}
+use Rattle.values.specs.Parameters.Laws.{own-row}
 use Rattle.values.specs.Parameters.Places.{found-same, never-found, at-numbered}
 use Rattle.catalogue.specs.declared.row.Indices.{Indices}
+use Rattle.catalogue.specs.declared.row.Kind.the-variants.{Word}
 use Rattle.catalogue.specs.declared.row.Row.{Row}
 use Rattle.room.specs.declared.table.Module.{Module}
 use Rattle.values.specs.declared.parameter.Parameter.{Parameter}
@@ -41,15 +45,15 @@ with-indices-told m n (r ∷ rs) i p e = go (sameIndices (r .indices) i) refl e 
         record { at = 0; found = h; indices = ap (λ q. q .row .indices) (sym (found-same one p h)) ∙ same-indices (r .indices) i s }
     go false s h below = let f = below h in record { at = suc (f .at); found = f .found; indices = f .indices }
 
--- the parameter p is the module m's, stands there by its number, and has the indices i
-pub record NamedBy (m : Module) (i : Indices) (p : Parameter) : Type 0 where
+-- the parameter p is the module m's, stands there by its number, and its row has the indices i
+pub record IndexedBy (m : Module) (i : Indices) (p : Parameter) : Type 0 where
   pub owner : p .owner ≡ m
   pub own : parameterAt (parametersOf m) (p .number) ≡ At p
   pub indices : p .row .indices ≡ i
 
-pub named-told : (m : Module) (i : Indices) (p : Parameter) → named m i ≡ At p → NamedBy m i p
-unfolding named parametersOf
-named-told m i p e =
+pub indexed-told : (m : Module) (i : Indices) (p : Parameter) → withIndices i (parametersOf m) ≡ At p → IndexedBy m i p
+unfolding parametersOf
+indexed-told m i p e =
     let f = with-indices-told m 0 (rowsOf (m .layout)) i p e in
     let h = at-numbered m 0 (rowsOf (m .layout)) (f .at) p (f .found) in
     let n : p .number ≡ f .at = h .number ∙ zero-add (f .at) in
@@ -78,10 +82,16 @@ with-indices-back m n (r ∷ rs) (suc j) p h e =
     let d = row-at (rowsDiffer r) m (n + 1) rs j p (k .0) e in
     rw (differ-indices r (p .row) d) (with-indices-back m (n + 1) rs j p (k .1) e)
 
-pub named-back : (m : Module) (j : ℕ) (p : Parameter) → parameterAt (parametersOf m) j ≡ At p → named m (p .row .indices) ≡ At p
-unfolding named parametersOf
-named-back m j p e = with-indices-back m 0 (rowsOf (m .layout)) j p (type-distinct (m .layout)) e
-
-pub row-sized : (m : Module) (j : ℕ) (p : Parameter) → parameterAt (parametersOf m) j ≡ At p → sizedRow (p .row) ≡ true
+pub indexed-back : (m : Module) (j : ℕ) (p : Parameter) → parameterAt (parametersOf m) j ≡ At p → withIndices (p .row .indices) (parametersOf m) ≡ At p
 unfolding parametersOf
-row-sized m j p e = row-at sizedRow m 0 (rowsOf (m .layout)) j p (type-sized (m .layout)) e
+indexed-back m j p e = with-indices-back m 0 (rowsOf (m .layout)) j p (type-distinct (m .layout)) e
+
+pub row-sized : (m : Module) (j : ℕ) (p : Parameter) → knownLayout (m .layout) ≡ true → parameterAt (parametersOf m) j ≡ At p → sizedRow (p .row) ≡ true
+unfolding parametersOf
+row-sized m j p k e = row-at sizedRow m 0 (rowsOf (m .layout)) j p (type-sized (m .layout) k) e
+
+-- a parameter that is a word is the routing word of an input of a mixer
+pub word-routed : (m : Module) (j : ℕ) (p : Parameter) → knownLayout (m .layout) ≡ true → parameterAt (parametersOf m) j ≡ At p → p .row .kind ≡ Word → Routed (m .layout) (p .row)
+word-routed m j p k e w =
+    let h = own-row m j p e in
+    rw (h .row) (row-routed (m .layout) j k (h .inside) (ap (λ r. r .kind) (sym (h .row)) ∙ w))

@@ -6,7 +6,7 @@ use Prim.Native.Nat.{ℕ, _+_, _≤_, _<_}
 use native.Mathlib.Omega.{arith}
 use lib.ListN.{length, drop, drop-of-length-le}
 use Rattle.catalogue.specs.Catalogue.{rowOf, rowsOf}
-use Rattle.values.specs.Parameters.{named, parametersOf, withIndices}
+use Rattle.values.specs.Parameters.{parametersOf, withIndices}
 use Rattle.values.specs.Parameters.Laws.{length-parametersOf, parameterOf, parametersOf-cons}
 use Rattle.catalogue.specs.Row.{sameIndices}
 use Rattle.catalogue.specs.declared.row.Indices.{Indices}
@@ -19,10 +19,9 @@ use Rattle.values.specs.declared.parameter.ParameterFound.the-variants.{
 pub record Seeking (m : Module) (i : Indices) (count j : ℕ) : Type 0 where
   pub counts : count ≡ length (rowsOf (m .layout))
   pub within : j ≤ count
-  pub rest : named m i ≡ withIndices i (drop j (parametersOf m))
+  pub rest : withIndices i (parametersOf m) ≡ withIndices i (drop j (parametersOf m))
 
 pub seek-start : (m : Module) (i : Indices) (count : ℕ) → count ≡ length (rowsOf (m .layout)) → Seeking m i count 0
-unfolding named
 seek-start m i count e = record { counts = e; within = omega arith; rest = refl }
 
 head : (i : Indices) (p : Parameter) (ps : List Parameter) (t : Bool) → sameIndices (p .row .indices) i ≡ t → withIndices i (p ∷ ps) ≡ cond t (At p) (withIndices i ps)
@@ -30,7 +29,7 @@ unfolding withIndices
 head i p ps t e = rw e
 
 module _ (m : Module) (i : Indices) (count j : ℕ) (s : Seeking m i count j) (l : j < count) (r : Row) (e : r ≡ rowOf (m .layout) j) (t : Bool) (f : t ≡ sameIndices (r .indices) i) where
-  at-row : named m i ≡ cond t (At (parameterOf m j)) (withIndices i (drop (j + 1) (parametersOf m)))
+  at-row : withIndices i (parametersOf m) ≡ cond t (At (parameterOf m j)) (withIndices i (drop (j + 1) (parametersOf m)))
   at-row =
       let k : j < length (rowsOf (m .layout)) = omega (arith, s .counts) in
       s .rest ∙ rw (parametersOf-cons m j k) (head i (parameterOf m j) (drop (j + 1) (parametersOf m)) t (rw e at (sym f)))
@@ -38,14 +37,14 @@ module _ (m : Module) (i : Indices) (count j : ℕ) (s : Seeking m i count j) (l
   pub seek-next : t ≡ false → Seeking m i count (j + 1)
   seek-next h = record { counts = s .counts; within = omega arith; rest = rw h at at-row }
 
-  pub seek-found : t ≡ true → At (record { owner = m; number = j; row = r }) ≡ named m i
+  pub seek-found : t ≡ true → At (record { owner = m; number = j; row = r }) ≡ withIndices i (parametersOf m)
   seek-found h = rw e (sym (rw h at at-row))
 
 nothing-left : (i : Indices) → withIndices i [] ≡ Nothing
 unfolding withIndices
 nothing-left i = refl
 
-pub seek-none : (m : Module) (i : Indices) (count j : ℕ) → Seeking m i count j → count ≤ j → Nothing ≡ named m i
+pub seek-none : (m : Module) (i : Indices) (count j : ℕ) → Seeking m i count j → count ≤ j → Nothing ≡ withIndices i (parametersOf m)
 seek-none m i count j s l =
     let past : length (parametersOf m) ≤ j = omega (arith, s .counts, length-parametersOf m) in
     sym (s .rest ∙ rw (drop-of-length-le (parametersOf m) past) (nothing-left i))

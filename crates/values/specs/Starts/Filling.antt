@@ -1,5 +1,6 @@
 -- Rules for the start values, one by one.
 use mathlib.Core.Path.{_≡_, refl, ap, sym, _∙_}
+use mathlib.Core.Bool.{true}
 use mathlib.Core.List.{List, [], _∷_, _++_}
 use Prim.Native.Nat.{ℕ, zero, suc, _+_, _≤_, _<_}
 use native.Mathlib.Numerals.{add-one}
@@ -14,6 +15,7 @@ use Rattle.values.specs.Parameters.Each.{parameter-fits}
 use Rattle.values.specs.Parameters.{parameterAt, parameters}
 use Rattle.catalogue.specs.Row.{RowFits, start}
 use Rattle.catalogue.specs.Row.Laws.{start-fits}
+use Rattle.room.specs.Table.{sound}
 use Rattle.values.specs.Starts.{Started, starts, startsOf}
 use Rattle.values.specs.declared.parameter.Parameter.{Parameter}
 use Rattle.values.specs.declared.parameter.ParameterFound.{ParameterFound}
@@ -33,9 +35,9 @@ none [] k e = refl
 none (q ∷ ps) zero e = absurd (let z : _≡_ {A = ℕ} 0 1 = cc in omega arith)
 none (q ∷ ps) (suc k) e = none ps k e
 
-module _ (t : List ℕ) (k : ℕ) (f : ParameterFound) (e : f ≡ parameterAt (parameters t) k) where
+module _ (t : List ℕ) (k : ℕ) (f : ParameterFound) (s : sound t ≡ true) (e : f ≡ parameterAt (parameters t) k) where
   pub found-fits : (p : Parameter) → f ≡ At p → RowFits (p .row)
-  found-fits p h = parameter-fits t k p (sym e ∙ h)
+  found-fits p h = parameter-fits t s k p (sym e ∙ h)
 
   pub start-found : (p : Parameter) (z : ℤ) → f ≡ At p → z ≡ start (p .row) → toZ w64 (ofZ w64 z) ≡ getD (starts t) k (pos 0)
   unfolding starts

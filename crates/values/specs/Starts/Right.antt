@@ -8,7 +8,8 @@ use borrow.Author.Tests.{eq-eqb}
 use lib.IntN.{ℤ}
 use lib.ListN.{length, take, drop, length-append}
 use lib.Seq.{take-at}
-use Rattle.catalogue.specs.Catalogue.Starts.{catalogue-starts, startRight}
+use Rattle.catalogue.specs.Catalogue.Modules.{all-start}
+use Rattle.catalogue.specs.Catalogue.Starts.{startRight}
 use Rattle.values.specs.Parameters.{parameterAt, parameters}
 use Rattle.values.specs.Parameters.Each.{every-parameter}
 use Rattle.room.specs.Table.{sound}
@@ -31,11 +32,11 @@ unfolding eachPermitted startsOf parameterAt
 each-start r [] h = refl
 each-start r (p ∷ ps) h = rw (row-in-own r p, h 0 p refl) (each-start r ps (λ k q e. h (suc k) q e))
 
-pub starts-right : (t : List ℕ) → valuesSound (roomOf t) (starts t) ≡ true
+pub starts-right : (t : List ℕ) → sound t ≡ true → valuesSound (roomOf t) (starts t) ≡ true
 unfolding valuesSound
-starts-right t =
+starts-right t s =
     let each : eachPermitted (roomOf t) (parameters t) (starts t) ≡ true =
-    unfold starts in each-start (roomOf t) (parameters t) (every-parameter startRight catalogue-starts t) in
+    unfold starts in each-start (roomOf t) (parameters t) (every-parameter startRight all-start t s) in
     rw (eq-eqb (length (starts t)) (length (parameters t)) (length-starts t)) each
 
 -- ---- a list that they were put into
@@ -51,7 +52,7 @@ module _ (t : List ℕ) (before : List ℤ) (n : ℕ) (after : List ℤ) (s : St
   pub started-within : n ≤ length after
   started-within = omega (arith, s .count, ap length (s .list), length-append (starts t) (drop (length (starts t)) before))
 
-  pub started-right : valuesSound (roomOf t) (take n after) ≡ true
-  started-right = rw started-first (starts-right t)
+  pub started-right : sound t ≡ true → valuesSound (roomOf t) (take n after) ≡ true
+  started-right h = rw started-first (starts-right t h)
 
 pub ruleset started = (starts-room, started-within, started-right)

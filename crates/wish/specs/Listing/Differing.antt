@@ -2,7 +2,7 @@
 use mathlib.Core.Path.{_≡_, refl, sym, _∙_}
 use mathlib.Core.Bool.{Bool, true, false, cond}
 use mathlib.Core.List.{List, [], _∷_, _++_}
-use Prim.Native.Nat.{ℕ, suc, _+_}
+use Prim.Native.Nat.{ℕ, zero, suc, _+_}
 use native.Mathlib.Nat.{zero-add}
 use native.Mathlib.Omega.{arith}
 use lib.IntN.{ℤ, pos}
@@ -84,6 +84,30 @@ made-behind (other p v x {ps = ps} {vs = vs} {xs = xs} n d) before f =
     let at : length before ≡ place p = omega (arith, f 0 p (element-first p ps)) in
     rw (set-at before v vs x (place p) at)
     (rw (append-snoc before x vs, append-snoc before x xs) at (made-behind d (before ++ x ∷ []) (behind-more before x p ps f)))
+
+-- each change finds its present value when those before it are made
+abbrev pub Finds : List Change → List ℤ → Type 0
+Finds [] vs = Unit
+Finds (c ∷ cs) vs = (getD vs (place (c .parameter)) (pos 0) ≡ c .present) × Finds cs (set vs (place (c .parameter)) (c .target))
+
+here : (before : List ℤ) (v : ℤ) (vs : List ℤ) (k : ℕ) → length before ≡ k → getD (before ++ (v ∷ vs)) k (pos 0) ≡ v
+here [] v vs zero e = refl
+here [] v vs (suc k) e = absurd (omega arith)
+here (u ∷ before) v vs zero e = absurd (omega arith)
+here (u ∷ before) v vs (suc k) e = here before v vs k (omega arith)
+
+finds-behind : {ps : List Parameter} {vs xs : List ℤ} {cs : List Change} → Differ ps vs xs cs → (before : List ℤ) → Behind before ps → Finds cs (before ++ vs)
+finds-behind none before f = tt
+finds-behind (same p v {ps = ps} {vs = vs} d) before f =
+    rw (append-snoc before v vs) at (finds-behind d (before ++ v ∷ []) (behind-more before v p ps f))
+finds-behind (other p v x {ps = ps} {vs = vs} n d) before f =
+    let at : length before ≡ place p = omega (arith, f 0 p (element-first p ps)) in (
+      here before v vs (place p) at,
+      rw (set-at before v vs x (place p) at) (rw (append-snoc before x vs) at (finds-behind d (before ++ x ∷ []) (behind-more before x p ps f))),
+    )
+
+pub wish-finds : (w : Wish) → Admitted w → Finds (changes w) (w .present)
+wish-finds w a = finds-behind (wish-differ w a) [] (λ k p e. at-place (w .room .table) k p e .stands ∙ sym (zero-add k))
 
 -- a wish's changes lead from the present values to the target
 pub made-target : (w : Wish) → Admitted w → made (changes w) (w .present) ≡ target w

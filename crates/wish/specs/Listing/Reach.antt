@@ -57,26 +57,29 @@ reachable-told t k p e h =
 
 -- ---- the changes of a wish
 
--- a change of a parameter of the table, to a value that is permitted in the room
+-- a change of a parameter of the table between values that are permitted in the room
 record Due (r : Room) (c : Change) : Type 0 where
   number : ℕ
   found : parameterAt (parameters (r .table)) number ≡ At (c .parameter)
+  from : permitted (rowIn r (c .parameter)) (c .present) ≡ true
   permits : permitted (rowIn r (c .parameter)) (c .target) ≡ true
 
 all-due : (w : Wish) → Admitted w → AllOf (Due (w .room)) (changes w)
 all-due w a =
     differ-each (Due (w .room)) (wish-differ w a)
-    (λ k p e. record { number = k; found = e; permits = value-permitted (w .room) (target w) k p (target-right w (a .present) (a .wanted)) e })
+    (λ k p e. record { number = k; found = e; from = value-permitted (w .room) (w .present) k p (a .present) e; permits = value-permitted (w .room) (target w) k p (target-right w (a .present) (a .wanted)) e })
 
 -- a change that one line can make
-abbrev pub Sayable : Room → Change → Type 0
-Sayable r c = Puttable r (c .parameter) (c .target)
+pub record Sayable (r : Room) (c : Change) : Type 0 where
+  pub from : permitted (rowIn r (c .parameter)) (c .present) ≡ true
+  pub puttable : Puttable r (c .parameter) (c .target)
 
 due-sayable : (r : Room) (cs : List Change) → AllOf (Due r) cs → allReachable (r .table) cs ≡ true → AllOf (Sayable r) cs
 due-sayable r [] d h = tt
 due-sayable r (c ∷ cs) d h =
     let b = reachable-both (r .table) c cs h in
-    (record { reached = reachable-told (r .table) (d .0 .number) (c .parameter) (d .0 .found) (b .0); permits = d .0 .permits }, due-sayable r cs (d .1) (b .1))
+    let reached = reachable-told (r .table) (d .0 .number) (c .parameter) (d .0 .found) (b .0) in
+    (record { from = d .0 .from; puttable = record { reached = reached; permits = d .0 .permits } }, due-sayable r cs (d .1) (b .1))
 
 pub all-sayable : (w : Wish) → Admitted w → allReachable (w .room .table) (changes w) ≡ true → AllOf (Sayable (w .room)) (changes w)
 all-sayable w a r = due-sayable (w .room) (changes w) (all-due w a) r

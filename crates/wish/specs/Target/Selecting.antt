@@ -7,13 +7,13 @@ use native.Mathlib.Omega.{arith}
 use borrow.Author.Tests.{eq-eqb, eqb-false, eqb-true, lt-leb, le-leb, ne-eqb}
 use lib.Dec.{eqb}
 use lib.ListN.{length, getD, drop}
-use Rattle.catalogue.specs.Catalogue.{rowsOf}
+use Rattle.catalogue.specs.Catalogue.{known, rowsOf}
 use Rattle.text.specs.Every.{every}
 use Rattle.text.specs.Every.Steps.{every-from, every-past}
 use Rattle.room.specs.Table.{modules, sound}
 use Rattle.record.specs.Body.{bodyLength}
 use Rattle.record.specs.Layout.{layoutAt}
-use Rattle.room.specs.Table.Walk.{Walk, place-fits, walk-counted, walk-few, walk-next, walk-numbered, walk-start}
+use Rattle.room.specs.Table.Walk.{Walk, place-fits, walk-counted, walk-few, walk-kind, walk-next, walk-numbered, walk-start}
 use mir.Syntax.{w64}
 use mir.Val.{Fits}
 use Rattle.wish.specs.Target.{atMostOne, selectionRight}
@@ -58,6 +58,9 @@ module _ (t selection : List ℕ) (number place : ℕ) (s : Selecting t selectio
         rest = rw (le-leb (getD selection number 0) 1 b) at (at-byte h);
       }
 
+  pub selecting-kind : known (getD t place 0) ≡ true
+  selecting-kind = walk-kind t number place (s .first) (s .walk) l
+
   pub selecting-number-fits : Fits w64 (number + 1)
   selecting-number-fits = record { fits = omega (arith, walk-few t number place (s .first) (s .walk) l) }
 
@@ -79,4 +82,4 @@ selecting-all t selection number place s l = go (eqb number (length selection)) 
     go false e = rw (e, ne-eqb (length selection) (length (modules t)) (λ f. eqb-false number (length selection) e (omega (arith, many))))
 
 pub ruleset selecting =
-    (selecting-start, selecting-short, selecting-wrong, selecting-next, selecting-number-fits, selecting-place-fits, selecting-all)
+    (selecting-start, selecting-short, selecting-wrong, selecting-next, selecting-kind, selecting-number-fits, selecting-place-fits, selecting-all)

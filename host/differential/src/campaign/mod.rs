@@ -36,7 +36,7 @@ pub fn run(left: &Calls, right: &Calls, settings: Settings) -> Report {
 fn play(rng: &mut Rng, compare: &mut Compare) -> Result<(), Difference> {
     let mut room = rooms::room(rng);
     if rng.once_in(6) {
-        rooms::spoil_table(rng, &mut room.table);
+        rooms::spoil_table(rng, &mut room);
     }
     let mut values = room.values.clone();
     if rng.once_in(6) {

@@ -3,7 +3,6 @@
 use crate::compare::{Compare, Difference, Sides, USUAL};
 use crate::rng::Rng;
 use crate::rooms;
-use reference::catalogue::rows;
 
 /// Asks for a list, with buffers around its length, and plays it.
 pub fn ask(
@@ -46,7 +45,7 @@ pub fn ask(
     }
     let mut sides = Sides::new(present, &[0; 66]);
     let acks = play(rng, compare, &room.table, &mut sides, &list)?;
-    let expected = fulfilled(room, present, &selection, &wanted);
+    let expected = fulfilled(&room.table, present, &selection, &wanted);
     if acks != count || sides.port()[..2] != [0, 0] || sides.values() != expected {
         return Err(format!(
             "restore: the list does not fulfil the wish: {}",
@@ -83,11 +82,11 @@ fn play(
 }
 
 /// The values after the wish: wanted for chosen modules, else present.
-fn fulfilled(room: &rooms::Room, present: &[i64], selection: &[u8], wanted: &[i64]) -> Vec<i64> {
+fn fulfilled(table: &[u8], present: &[i64], selection: &[u8], wanted: &[i64]) -> Vec<i64> {
     let mut expected = present.to_vec();
     let mut start = 0;
-    for ((kind, _), chosen) in room.modules.iter().zip(selection) {
-        let end = start + rows(*kind).len();
+    for (layout, chosen) in rooms::layouts(table).iter().zip(selection) {
+        let end = start + layout.count();
         if *chosen == 1 {
             expected[start..end].copy_from_slice(&wanted[start..end]);
         }

@@ -112,3 +112,17 @@ fn short(values: &[i64]) -> String {
     let shown = &values[..values.len().min(80)];
     format!("{} of {shown:?}", values.len())
 }
+
+/// What a set line or the answer to a get line speaks of: a routing word or one
+/// of its cross-points, or a value of another kind.
+fn form(line: &[u8]) -> &'static str {
+    // A label may hold anything but a quote.
+    let groups = line.rsplit(|&byte| byte == b'"').next().unwrap_or(line);
+    if groups.starts_with(b">3>") {
+        "word"
+    } else if groups.starts_with(b">4>(") {
+        "pair"
+    } else {
+        "value"
+    }
+}

@@ -1,7 +1,7 @@
 //! The port call.
 
 use super::written::{Output, Written};
-use super::{number, short, Compare, Difference, Fed, Side, Sides};
+use super::{form, number, short, Compare, Difference, Fed, Side, Sides};
 use crate::rng::Rng;
 use cores::Calls;
 
@@ -53,6 +53,9 @@ impl Compare<'_> {
         if let Some(fed) = fed.as_ref().filter(|fed| !fed.reply.is_empty()) {
             self.tally.note("reply", kind(&fed.reply));
             self.tally.note("cause", &fed.cause.to_string());
+            if kind(&fed.reply) == "GA" {
+                self.tally.note("told", form(&fed.reply));
+            }
         }
         Ok(fed)
     }

@@ -1,7 +1,7 @@
 //! The restore call.
 
 use super::written::{Output, Written};
-use super::{number, short, Compare, Difference};
+use super::{form, number, short, Compare, Difference};
 use crate::rng::Rng;
 use cores::Calls;
 
@@ -36,7 +36,7 @@ impl Compare<'_> {
             call(self.right, &mut written.right),
         );
         self.tally.count("restore", number(answers.1));
-        judge(answers, &written).map_err(|what| {
+        let answer = judge(answers, &written).map_err(|what| {
             format!(
                 "restore: {what}\n  selection {}\n  present {}\n  wanted {}\n  \
                  list buffer {room}\n  table {}\n  answers {answers:?}, \
@@ -50,7 +50,13 @@ impl Compare<'_> {
                 written.left.buffer.view().escape_ascii(),
                 written.right.buffer.view().escape_ascii(),
             )
-        })
+        })?;
+        if let Ok((list, _)) = &answer {
+            for line in list.split_inclusive(|&byte| byte == b'\r') {
+                self.tally.note("said", form(line));
+            }
+        }
+        Ok(answer)
     }
 }
 

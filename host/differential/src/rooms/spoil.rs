@@ -1,68 +1,71 @@
-//! Wrong tables and values.
+//! Wrong tables and lists of values.
 
-use super::Room;
+use super::{record, spoiled, Room};
 use crate::rng::Rng;
-use reference::catalogue::{rows, Row};
+use reference::catalogue::Row;
 
-/// A value that is mostly not permitted.
-pub fn spoiled(rng: &mut Rng, row: &Row, value: i64) -> i64 {
-    let step = i64::from(row.step);
-    match rng.below(12) {
-        0 => row.low - 1,
-        1 => row.high + 1,
-        2 => row.low - step,
-        3 => row.high + step,
-        4 => value.wrapping_add(1),
-        5 => i64::MIN,
-        6 => i64::MAX,
-        7 => value.wrapping_add(1 << 32),
-        8 => value.wrapping_add(1 << rng.below(64)),
-        9 if step > 1 => rng.between(row.low, row.high),
-        9 => value.wrapping_neg(),
-        10 => rng.next() as i64,
-        _ => value.wrapping_add(rng.between(-20, 20)),
-    }
-}
-
-/// Spoils a table in one of many ways; a few of them leave it sound.
-pub fn spoil_table(rng: &mut Rng, table: &mut Vec<u8>) {
-    if table.is_empty() || rng.once_in(10) {
+/// Spoils a room's table in one of many ways; a few of them leave it sound.
+pub fn spoil_table(rng: &mut Rng, room: &mut Room) {
+    let records: Vec<Vec<u8>> = room
+        .modules
+        .iter()
+        .map(|(layout, label)| record(*layout, label))
+        .collect();
+    let table = &mut room.table;
+    if records.is_empty() || rng.once_in(10) {
         let added = 1 + rng.below(40);
         table.extend((0..added).map(|_| rng.byte()));
         return;
     }
-    let record = rng.below(table.len() / 33) * 33;
-    let length = table[record + 1..record + 33]
-        .iter()
-        .position(|&byte| byte == 0)
-        .unwrap_or(32);
-    match rng.below(11) {
-        0 => table.truncate(table.len() - 1 - rng.below(table.len().min(33))),
-        1 => table[record] = rng.pick(&[0, 7, 8, 255, 0x11, 0x81]),
-        2 if length < 31 => table[record + 2 + length + rng.below(31 - length)] = b'A',
-        3 => table[record + 1 + rng.below(length)] = b'"',
-        4 => table[record + 1 + rng.below(length)] = rng.pick(&[0x1F, 0x7F, 0x80, 0xFF, 0x0D]),
-        5 => table[record + 1] = 0,
-        6 => table[record + 1..record + 33].fill(0),
-        7 => grow(table, 65),
-        8 => grow(table, 66 + rng.below(3)),
-        9 => {
+    match rng.below(8) {
+        0 => table.truncate(table.len() - 1 - rng.below(table.len().min(35))),
+        1 => *table = repeated(&records, 65),
+        2 => *table = repeated(&records, 66 + rng.below(3)),
+        3 => {
             table.remove(rng.below(table.len()));
         }
-        _ => {
+        4 => {
             let place = rng.below(table.len());
             table[place] = rng.byte();
+        }
+        _ => {
+            let number = rng.below(records.len());
+            let start = records[..number].iter().flatten().count();
+            let mut spoiled = records[number].clone();
+            spoil_record(rng, &mut spoiled);
+            table.splice(start..start + records[number].len(), spoiled);
         }
     }
 }
 
-/// Repeats the records up to a count.
-fn grow(table: &mut Vec<u8>, count: usize) {
-    let records = table.clone();
-    while table.len() < count * 33 {
-        table.extend_from_slice(&records);
+/// Spoils a record: its kind, its label or its sizes.
+fn spoil_record(rng: &mut Rng, record: &mut Vec<u8>) {
+    let zero = record[1..33].iter().position(|&byte| byte == 0);
+    let length = zero.unwrap_or(32);
+    match rng.below(10) {
+        0 => record[0] = rng.pick(&[0, 8, 255, 0x11, 0x81]),
+        1 => record[0] = rng.pick(&[1, 6, 7]),
+        2 if length < 31 => record[2 + length + rng.below(31 - length)] = b'A',
+        3 => record[1 + rng.below(length)] = b'"',
+        4 => record[1 + rng.below(length)] = rng.pick(&[0x1F, 0x7F, 0x80, 0xFF, 0x0D]),
+        5 => record[1] = 0,
+        6 => record[1..33].fill(0),
+        // Of a mixer these are its sizes, wrong or exchanged or left out; any
+        // other record gets bytes that it should not have.
+        7 if record.len() > 33 => record.swap(33, 34),
+        8 if record.len() > 33 => record.truncate(33),
+        7 | 8 => record.extend([1, 1]),
+        _ => match record.get_mut(33 + rng.below(2)) {
+            Some(size) => *size = rng.pick(&[0, 33, 255, 34, 64, 128]),
+            None => record[0] = 7,
+        },
     }
-    table.truncate(count * 33);
+}
+
+/// The records again and again, up to a count.
+fn repeated(records: &[Vec<u8>], count: usize) -> Vec<u8> {
+    let repeated = records.iter().cycle().take(count);
+    repeated.flatten().copied().collect()
 }
 
 /// Spoils a list of values: its length, or an entry.
@@ -93,5 +96,5 @@ pub fn spoil_values(rng: &mut Rng, room: &Room, values: &mut Vec<i64>) {
 
 /// The rows of all modules, in value order.
 fn all_rows(room: &Room) -> impl Iterator<Item = &'static Row> + '_ {
-    room.modules.iter().flat_map(|&(kind, _)| rows(kind))
+    room.modules.iter().flat_map(|(layout, _)| layout.rows())
 }

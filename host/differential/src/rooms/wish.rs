@@ -1,8 +1,7 @@
 //! Random selections and wanted values.
 
-use super::{permitted, spoiled, Room};
+use super::{differing, spoiled, Room};
 use crate::rng::Rng;
-use reference::catalogue::rows;
 
 /// One byte for each module.
 pub fn selection(rng: &mut Rng, room: &Room) -> Vec<u8> {
@@ -34,13 +33,13 @@ pub fn wanted(rng: &mut Rng, room: &Room, present: &[i64], selection: &[u8]) -> 
     let rubbish = rng.once_in(3);
     let wrong = rng.once_in(10);
     let mut entries = wanted.iter_mut();
-    for (number, (kind, _)) in room.modules.iter().enumerate() {
+    for (number, (layout, _)) in room.modules.iter().enumerate() {
         let chosen = selection.get(number) == Some(&1);
-        for (row, entry) in rows(*kind).iter().zip(&mut entries) {
+        for (row, entry) in layout.rows().zip(&mut entries) {
             if (rubbish && !chosen) || (wrong && rng.once_in(20)) {
                 *entry = spoiled(rng, row, *entry);
             } else if (row.settable || read_only) && rng.below(100) < changes {
-                *entry = permitted(rng, row);
+                *entry = differing(rng, row, *entry);
             }
         }
     }

@@ -1,14 +1,14 @@
 //! The four calls: tables, ports, logs, and each value.
 
-use super::{index, line, module, FRESH};
+use super::{fixed, index, line, module, FRESH};
 use crate::compare::{Compare, Difference, Sides, USUAL};
 use crate::rng::Rng;
-use reference::catalogue::rows;
+use reference::layout::Layout;
 
 /// Each byte at each place of a record, for short and long labels.
 pub fn tables(compare: &mut Compare) -> Result<(), Difference> {
     for length in [1, 2, 31, 32] {
-        let (table, _) = module(2, &[b'A'; 32][..length]);
+        let (table, _) = module(Layout::of(2), &[b'A'; 32][..length]);
         for place in 0..33 {
             for byte in 0..=255 {
                 let mut table = table.clone();
@@ -17,7 +17,7 @@ pub fn tables(compare: &mut Compare) -> Result<(), Difference> {
             }
         }
     }
-    let many = module(2, b"A").0.repeat(70);
+    let many = module(Layout::of(2), b"A").0.repeat(70);
     for length in 0..many.len() {
         compare.table(&many[..length])?;
     }
@@ -27,7 +27,7 @@ pub fn tables(compare: &mut Compare) -> Result<(), Difference> {
 /// Each claim with some overrun bytes, and pieces around the limit; then each
 /// overrun byte, and each room for a reply.
 pub fn ports(compare: &mut Compare) -> Result<(), Difference> {
-    let (table, values) = module(2, b"S");
+    let (table, values) = module(Layout::of(2), b"S");
     let rng = &mut Rng::new(2, 2);
     let mut line = b"GA\"S\">1".to_vec();
     line.resize(64, b' ');
@@ -68,8 +68,12 @@ pub fn ports(compare: &mut Compare) -> Result<(), Difference> {
 /// table, one with a shared label, and an unsound one.
 pub fn logs(compare: &mut Compare) -> Result<(), Difference> {
     let rng = &mut Rng::new(4, 4);
-    let one = [module(1, b"a").0, module(2, b"ab").0].concat();
-    let two = [module(1, b"a").0, module(2, b"a").0].concat();
+    let one = [
+        module(Layout::of(1), b"a").0,
+        module(Layout::of(2), b"ab").0,
+    ]
+    .concat();
+    let two = [module(Layout::of(1), b"a").0, module(Layout::of(2), b"a").0].concat();
     for table in [&one[..], &two, &one[1..], &[]] {
         for number in 0..4usize.pow(7) {
             let letters = (0..7).map(|place| b"\"ab\0"[number / 4usize.pow(place) % 4]);
@@ -84,12 +88,12 @@ pub fn logs(compare: &mut Compare) -> Result<(), Difference> {
     Ok(())
 }
 
-/// Each value of each row, and some outside: asked for, set and restored.
+/// Each value of each fixed row, and some outside: asked for, set and restored.
 pub fn values(compare: &mut Compare) -> Result<(), Difference> {
     let rng = &mut Rng::new(3, 3);
-    for kind in 1..=6 {
-        let (table, start) = module(kind, b"M");
-        for (place, row) in rows(kind).iter().enumerate() {
+    for layout in fixed() {
+        let (table, start) = module(layout, b"M");
+        for (place, row) in layout.rows().enumerate() {
             let get = format!("GA\"M\"{}", index(row));
             let mut room = (table.clone(), start.clone());
             for value in row.low - 12..=row.high + 12 {

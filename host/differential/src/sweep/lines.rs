@@ -1,13 +1,14 @@
 //! Lines: indices, edits and texts.
 
-use super::{index, line, module};
+use super::{fixed, index, line, module};
 use crate::compare::{Compare, Difference};
-use reference::catalogue::{rows, Kind};
+use reference::catalogue::Kind;
+use reference::layout::Layout;
 
-/// Each index group of one to three digits, and pairs of groups.
+/// Each index group of one to three digits, alone and one of two.
 pub fn indices(compare: &mut Compare) -> Result<(), Difference> {
-    for kind in 1..=6 {
-        let room = module(kind, b"M");
+    for layout in fixed().chain([Layout::mixer(9, 10), Layout::mixer(32, 31)]) {
+        let room = module(layout, b"M");
         for first in 0..1000 {
             for width in 1..=4 {
                 line(
@@ -16,7 +17,7 @@ pub fn indices(compare: &mut Compare) -> Result<(), Difference> {
                     format!("GA\"M\">{first:0width$}").as_bytes(),
                 )?;
             }
-            for other in 0..4 {
+            for other in 0..6 {
                 line(
                     compare,
                     &room,
@@ -35,18 +36,24 @@ pub fn indices(compare: &mut Compare) -> Result<(), Difference> {
 
 /// Each byte put in, put over and left out at each place of some lines.
 pub fn edits(compare: &mut Compare) -> Result<(), Difference> {
-    let lines: [(u8, &[u8]); 7] = [
-        (1, b"SA\"M\">1=-4.5"),
-        (1, b"SA \"M\">2=T"),
-        (1, b"GA\"M\">3"),
-        (4, b"SA\"M\">1>2=-60.5"),
-        (5, b"GA \"M\">2>17"),
-        (6, b"SA\"M\">1>1=43200"),
-        (5, b"SA\"M\">0>8=-3"),
+    let mixer = Layout::mixer(2, 10);
+    let lines: [(Layout, &[u8]); 12] = [
+        (Layout::of(1), b"SA\"M\">1=-4.5"),
+        (Layout::of(1), b"SA \"M\">2=T"),
+        (Layout::of(1), b"GA\"M\">3"),
+        (Layout::of(4), b"SA\"M\">1>2=-60.5"),
+        (Layout::of(5), b"GA \"M\">2>17"),
+        (Layout::of(6), b"SA\"M\">1>1=43200"),
+        (Layout::of(5), b"SA\"M\">0>8=-3"),
+        (Layout::of(4), b"SA\"M\">1>(2,3)=O"),
+        (mixer, b"SA\"M\">3>2=C0400000"),
+        (mixer, b"SA\"M\">4>(2,10)=T"),
+        (mixer, b"GA\"M\">4>(1,2)"),
+        (mixer, b"SA \"M\">1>3=-60.5"),
     ];
-    for (kind, right) in lines {
-        let mut room = module(kind, b"M");
-        for (value, row) in room.1.iter_mut().zip(rows(kind)) {
+    for (layout, right) in lines {
+        let mut room = module(layout, b"M");
+        for (value, row) in room.1.iter_mut().zip(layout.rows()) {
             *value = row.high;
         }
         for place in 0..=right.len() {
@@ -66,7 +73,8 @@ pub fn edits(compare: &mut Compare) -> Result<(), Difference> {
     Ok(())
 }
 
-/// Each level text and each number text, on each row of its kind.
+/// Each level text and each number text, and words of one bit, on each row of
+/// their kind.
 pub fn texts(compare: &mut Compare) -> Result<(), Difference> {
     let mut levels = Vec::new();
     for whole in (0..10)
@@ -82,9 +90,9 @@ pub fn texts(compare: &mut Compare) -> Result<(), Difference> {
             }
         }
     }
-    for kind in 1..=6 {
-        let room = module(kind, b"M");
-        for row in rows(kind) {
+    for layout in fixed().chain([Layout::mixer(2, 3), Layout::mixer(1, 32)]) {
+        let room = module(layout, b"M");
+        for row in layout.rows() {
             let begin = format!("SA\"M\"{}=", index(row));
             match row.kind {
                 Kind::Level => {
@@ -102,6 +110,18 @@ pub fn texts(compare: &mut Compare) -> Result<(), Difference> {
                             if width > 1 && number > 1200 && number < 43_000 {
                                 break;
                             }
+                        }
+                    }
+                }
+                Kind::Word => {
+                    for (place, width) in (0..34).flat_map(|n| (1..=10).map(move |w| (n, w))) {
+                        let word = 1u64 << place;
+                        let texts = [
+                            format!("{word:0width$X}"),
+                            format!("{:0width$x}", word * 10),
+                        ];
+                        for text in texts.iter().map(String::as_str).chain(["O", "F", "T", ""]) {
+                            line(compare, &room, format!("{begin}{text}").as_bytes())?;
                         }
                     }
                 }

@@ -2,14 +2,18 @@
 
 mod calls;
 mod lines;
+mod mixers;
+mod pairs;
 
 use std::panic::{catch_unwind, AssertUnwindSafe};
 
 use crate::compare::{Compare, Difference, Sides, USUAL};
 use crate::report::Report;
 use crate::rng::Rng;
+use crate::rooms::record;
 use cores::Calls;
-use reference::catalogue::{rows, Row};
+use reference::catalogue::Row;
+use reference::layout::Layout;
 
 const FRESH: [u8; 66] = [0; 66];
 
@@ -19,24 +23,31 @@ pub fn sweep(left: &Calls, right: &Calls) -> Report {
     let mut compare = Compare::new(left, right);
     let played = catch_unwind(AssertUnwindSafe(|| {
         calls::tables(&mut compare)?;
+        mixers::tables(&mut compare)?;
         calls::ports(&mut compare)?;
         lines::indices(&mut compare)?;
+        pairs::forms(&mut compare)?;
+        pairs::numbers(&mut compare)?;
         lines::edits(&mut compare)?;
         calls::logs(&mut compare)?;
         lines::texts(&mut compare)?;
+        mixers::words(&mut compare)?;
+        mixers::lists(&mut compare)?;
         calls::values(&mut compare)
     }));
     compare.tally.scenarios += 1;
     Report::new(compare.tally, 0, played)
 }
 
+/// The layouts of fixed rows.
+fn fixed() -> impl Iterator<Item = Layout> {
+    (1..=6).map(Layout::of)
+}
+
 /// A table of one module, with its starting values.
-fn module(kind: u8, label: &[u8]) -> (Vec<u8>, Vec<i64>) {
-    let mut table = vec![0; 33];
-    table[0] = kind;
-    table[1..1 + label.len()].copy_from_slice(label);
-    let values = rows(kind).iter().map(Row::start).collect();
-    (table, values)
+fn module(layout: Layout, label: &[u8]) -> (Vec<u8>, Vec<i64>) {
+    let values = layout.rows().map(Row::start).collect();
+    (record(layout, label), values)
 }
 
 fn index(row: &Row) -> String {

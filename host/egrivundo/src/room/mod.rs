@@ -5,10 +5,6 @@ mod restore;
 
 pub use feed::Fed;
 
-/// Bytes of a record: kind and label.
-const RECORD: usize = 33;
-const LABEL: usize = 32;
-
 /// A sound table with permitted values.
 #[derive(Clone, Debug, PartialEq, Eq)]
 pub struct Room {
@@ -25,11 +21,17 @@ pub struct Module<'a> {
     pub label: &'a [u8],
     /// The place of its first value.
     pub start: usize,
-    /// Its values, row by row.
+    /// Its values, row by row: levels in tenths of a dB, switches 0 or 1,
+    /// numbers as they are, routing words with output 1 as bit 31.
     pub values: &'a [i64],
 }
 
 impl Room {
+    /// The most bytes of a table.
+    pub const TABLE: usize = 2_240;
+    /// The most values.
+    pub const VALUES: usize = 10_240;
+
     /// A room of modules with the values that they start with.
     ///
     /// ```
@@ -40,20 +42,17 @@ impl Room {
     ///
     /// let quoted = Room::new(&[(Type::SmartBass, "a \" in it")]);
     /// assert_eq!(quoted, Err(Refusal::Table));
+    ///
+    /// let size = |inputs, outputs| Type::StandardMixer { inputs, outputs };
+    /// assert_eq!(Room::new(&[(size(32, 32), "Desk")])?.values().len(), 160);
+    /// assert_eq!(Room::new(&[(size(32, 33), "Desk")]), Err(Refusal::Table));
     /// # Ok::<(), Refusal>(())
     /// ```
     pub fn new(modules: &[(Type, &str)]) -> Result<Room, Refusal> {
-        let mut table = Vec::with_capacity(modules.len() * RECORD);
+        let mut table = Vec::new();
         let mut values = Vec::new();
         for (kind, label) in modules {
-            // A zero byte would be taken for the label's end.
-            if label.len() > LABEL || label.contains('\0') {
-                return Err(Refusal::Table);
-            }
-            let end = table.len() + RECORD;
-            table.push(kind.number());
-            table.extend_from_slice(label.as_bytes());
-            table.resize(end, 0);
+            table.extend(kind.record(label).ok_or(Refusal::Table)?);
             values.extend_from_slice(kind.start());
         }
         Room::from_parts(table, values)
@@ -90,19 +89,19 @@ impl Room {
 
     /// The modules in table order.
     pub fn modules(&self) -> impl Iterator<Item = Module<'_>> {
+        let mut rest = &self.table[..];
         let mut start = 0;
-        self.table.chunks_exact(RECORD).map(move |record| {
-            let kind = Type::of_number(record[0]).expect("a sound table has known kinds");
-            let field = &record[1..];
-            let length = field.iter().position(|&byte| byte == 0);
+        std::iter::from_fn(move || {
+            let (kind, label, record) = Type::first(rest)?;
             let module = Module {
                 kind,
-                label: &field[..length.unwrap_or(LABEL)],
+                label,
                 start,
                 values: &self.values[start..start + kind.rows()],
             };
+            rest = &rest[record.len()..];
             start += kind.rows();
-            module
+            Some(module)
         })
     }
 

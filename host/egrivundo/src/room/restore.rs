@@ -4,8 +4,8 @@ use super::Room;
 use crate::{calls, List, Refusal};
 
 /// Bytes of a restore line beside its label, at most: verb, quotes, two
-/// indices (`>2>18`), `=`, text (`-60.5`), end.
-const LINE: usize = 2 + 2 + 5 + 1 + 5 + 1;
+/// indices (`>3>32`), `=`, text (a word), end. A line with a pair is shorter.
+const LINE: usize = 2 + 2 + 5 + 1 + 8 + 1;
 
 impl Room {
     /// The shortest list that brings the chosen modules to the wanted values
@@ -26,6 +26,12 @@ impl Room {
     /// let replies = room.feed_all(&mut Port::new(), list.bytes())?;
     /// assert!(replies.len() == 4 && replies.iter().all(|reply| reply.is_ack()));
     /// assert_eq!(room.values(), wanted);
+    ///
+    /// // One differing output of a word is said by its cross-point, more by the word.
+    /// let desk = Type::StandardMixer { inputs: 2, outputs: 2 };
+    /// let room = Room::new(&[(desk, "M")])?;
+    /// let list = room.restore(&[1], &[0, 0, 0, 0, 0, 0, 0, 0, 0x4000_0000, 0xC000_0000])?;
+    /// assert_eq!(list.bytes(), b"SA\"M\">4>(1,2)=O\rSA\"M\">3>2=C0000000\r");
     /// # Ok::<(), Refusal>(())
     /// ```
     pub fn restore(&self, selection: &[u8], wanted: &[i64]) -> Result<List, Refusal> {

@@ -2,6 +2,8 @@
 
 #![allow(dead_code)]
 
+use reference::layout::Layout;
+
 pub const ACK: &[u8] = b"\x06\r";
 
 /// A record of the table.
@@ -10,6 +12,11 @@ pub fn record(kind: u8, label: &[u8]) -> Vec<u8> {
     record[0] = kind;
     record[1..1 + label.len()].copy_from_slice(label);
     record
+}
+
+/// The record of a mixer.
+pub fn mixer(inputs: u8, outputs: u8, label: &[u8]) -> Vec<u8> {
+    [record(7, label), vec![inputs, outputs]].concat()
 }
 
 pub fn table(modules: &[(u8, &[u8])]) -> Vec<u8> {
@@ -36,11 +43,22 @@ pub type Fed = Result<(usize, Vec<u8>), u8>;
 
 impl Room {
     pub fn new(modules: &[(u8, &[u8])]) -> Room {
-        let rows = modules
-            .iter()
-            .flat_map(|&(kind, _)| reference::catalogue::rows(kind));
+        let layouts = modules.iter().map(|&(kind, _)| Layout::of(kind));
+        Room::of(table(modules), layouts.collect())
+    }
+
+    /// A room of mixers, each with its inputs, outputs and label.
+    pub fn mixers(mixers: &[(u8, u8, &[u8])]) -> Room {
+        let records = mixers.iter().map(|&(m, n, label)| mixer(m, n, label));
+        let layouts = mixers.iter().map(|&(m, n, _)| Layout::mixer(m, n));
+        Room::of(records.flatten().collect(), layouts.collect())
+    }
+
+    /// A table with the values that it starts with.
+    pub fn of(table: Vec<u8>, layouts: Vec<Layout>) -> Room {
+        let rows = layouts.into_iter().flat_map(Layout::rows);
         Room {
-            table: table(modules),
+            table,
             values: rows.map(|row| row.start()).collect(),
             port: [0; 66],
             fault: [0; 2],

@@ -14,7 +14,7 @@ use Rattle.catalogue.specs.Catalogue.Numbers.Reading.{column-bits}
 use Rattle.catalogue.specs.declared.row.Indices.{Indices}
 use Rattle.catalogue.specs.declared.row.Indices.the-variants.{OneGroup, TwoGroups}
 use Rattle.catalogue.specs.declared.row.Kind.{Kind}
-use Rattle.catalogue.specs.declared.row.Kind.the-variants.{Level, Switch, Number}
+use Rattle.catalogue.specs.declared.row.Kind.the-variants.{Level, Switch, Number, Word}
 use Rattle.catalogue.specs.declared.row.Row.{Row}
 
 -- ---- the columns that are not negative
@@ -29,6 +29,7 @@ unfolding kindNumber
 kind-sign Level = tt
 kind-sign Switch = tt
 kind-sign Number = tt
+kind-sign Word = tt
 
 flag-sign : (b : Bool) → T (nonNeg (cond b (pos 1) (pos 0)))
 flag-sign true = tt

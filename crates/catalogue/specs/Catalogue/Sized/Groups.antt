@@ -1,4 +1,4 @@
--- A row's indices are below 1000.
+-- A row's indices are small.
 use mathlib.Core.Path.{_≡_}
 use mathlib.Core.Bool.{true}
 use Prim.Native.Nat.{ℕ, _<_}
@@ -12,13 +12,13 @@ use Rattle.catalogue.specs.declared.row.Row.{Row}
 
 pub data Small : Indices → Type 0 where
   one : (a : ℕ) → a < 1000 → Small (OneGroup a)
-  two : (a b : ℕ) → a < 1000 → b < 1000 → Small (TwoGroups a b)
+  two : (a b : ℕ) → a < 10 → b < 100 → Small (TwoGroups a b)
 
 pub indices-small : (i : Indices) → sizedIndices i ≡ true → Small i
 unfolding sizedIndices
 indices-small (OneGroup a) h = one a (ltb-true a 1000 h)
 indices-small (TwoGroups a b) h =
-    two a b (ltb-true a 1000 (both-left (ltb a 1000) (ltb b 1000) h)) (ltb-true b 1000 (both-right (ltb a 1000) (ltb b 1000) h))
+    two a b (ltb-true a 10 (both-left (ltb a 10) (ltb b 100) h)) (ltb-true b 100 (both-right (ltb a 10) (ltb b 100) h))
 
 pub row-indices : (r : Row) → sizedRow r ≡ true → sizedIndices (r .indices) ≡ true
 unfolding sizedRow

@@ -1,4 +1,4 @@
--- `get_line`: a parameter is told, and a code stays.
+-- `get_line`: what is named is told, and else a code.
 use borrow.Author.Needs.{needs}
 use Rattle.line.specs.Meaning.Reading.{get-rules}
 use Rattle.line.proofs.meaning.get_line.Statement.{statement}
@@ -8,12 +8,13 @@ pub get-line-spec : {M : Type 1} → statement M
 get-line-spec =
     tie.close
     (tie.spec
-    (λ c. search (get-rules, needs))  -- add-target-of
-    (λ c. search (get-rules, needs))  -- sub-target-of
-    (λ c. search (get-rules, needs))  -- part-target-of-start
-    (λ c. search (get-rules, needs))  -- part-target-of-end
-    (λ c κs. search (get-rules, needs))  -- target-of-requires
+    (λ c. search (get-rules, needs))  -- add-sought-in
+    (λ c. search (get-rules, needs))  -- sub-sought-in
+    (λ c. search (get-rules, needs))  -- part-sought-in-start
+    (λ c. search (get-rules, needs))  -- part-sought-in-end
+    (λ c κs. search (get-rules, needs))  -- sought-in-requires
     (λ c. search (get-rules, needs))  -- enum-known-p
-    (λ c. search (get-rules, needs))  -- enum-known-n
+    (λ c. search (get-rules, needs))  -- enum-told
+    (λ c κs. search (get-rules, needs))  -- missing-requires
     (λ c. search (get-rules, needs))  -- returns
     (λ c. search (get-rules, needs)))  -- returns-2

@@ -1,4 +1,4 @@
--- `indexed`: the index part is right, and says the indices.
+-- `indexed`: the index part is right, and says the groups.
 use borrow.Author.Needs.{needs}
 use Rattle.line.specs.Meaning.Reading.{indexed-rules}
 use Rattle.line.proofs.meaning.indexed.Statement.{statement}
@@ -9,7 +9,7 @@ indexed-spec =
     tie.close
     (tie.spec
     (λ c κs. search (indexed-rules, needs))  -- read-indices-requires
-    (λ c. search (indexed-rules, needs))  -- enum-known-indices
+    (λ c. search (indexed-rules, needs))  -- enum-known-groups
     (λ c κs. search (indexed-rules, needs))  -- named-requires
     (λ c. search (indexed-rules, needs))  -- enum-told
     (λ c. search (indexed-rules, needs))  -- returns

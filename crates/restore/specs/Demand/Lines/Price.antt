@@ -1,11 +1,11 @@
 -- The price of a list of changes as a potential: no line lowers it by more than its bytes and its 0D.
-use mathlib.Core.Path.{_≡_, refl}
+use mathlib.Core.Path.{_≡_, refl, _∙_, ap}
 use mathlib.Core.List.{List, [], _∷_}
 use Prim.Native.Nat.{ℕ, zero, suc, _+_, _≤_, _<_}
 use native.Mathlib.Omega.{arith}
 use lib.IntN.{ℤ, pos}
 use lib.ListN.{length, getD, set, length-append}
-use Rattle.values.specs.Parameters.{parameters, place}
+use Rattle.values.specs.Parameters.{parameterAt, parameters, place}
 use Rattle.values.specs.Parameters.Elements.{at-element}
 use Rattle.values.specs.Room.{Room}
 use Rattle.values.specs.declared.parameter.Parameter.{Parameter}
@@ -16,7 +16,8 @@ use Rattle.wish.specs.Listing.{Change, listing}
 use Rattle.wish.specs.Listing.Differing.{Differ, none, other, same}
 use Rattle.wish.specs.Listing.Laws.{listing-first, listing-none}
 use Rattle.restore.specs.Demand.Lines.{price, Effect, nothing, puts, Lines}
-use Rattle.values.specs.Values.Laws.{equal-refl, values-many, at-inside}
+use Rattle.values.specs.Values.Laws.{equal-refl, value-permitted, values-many, at-inside}
+use Rattle.values.specs.declared.parameter.ParameterFound.the-variants.{At}
 
 -- ---- a function of each value, summed
 
@@ -45,17 +46,13 @@ prices t [] xs = []
 prices t (p ∷ ps) [] = []
 prices t (p ∷ ps) (x ∷ xs) = price t p x ∷ prices t ps xs
 
--- the price of a parameter, which is free where it has no target
-data Priced (t : List ℕ) (p : Parameter) (f : ℤ → ℕ) : Type 0 where
-  priced : (x : ℤ) → f ≡ price t p x → Priced t p f
-  unpriced : f ≡ free → Priced t p f
-
-price-at : (t : List ℕ) (ps : List Parameter) (xs : List ℤ) (k : ℕ) (d : Parameter) → Priced t (getD ps k d) (getD (prices t ps xs) k free)
+price-at : (t : List ℕ) (ps : List Parameter) (xs : List ℤ) (k : ℕ) (d : Parameter) → k < length ps → k < length xs
+    → getD (prices t ps xs) k free ≡ price t (getD ps k d) (getD xs k (pos 0))
 unfolding prices
-price-at t [] xs k d = unpriced refl
-price-at t (p ∷ ps) [] k d = unpriced refl
-price-at t (p ∷ ps) (x ∷ xs) zero d = priced x refl
-price-at t (p ∷ ps) (x ∷ xs) (suc k) d = price-at t ps xs k d
+price-at t [] xs k d h l = absurd (omega arith)
+price-at t (p ∷ ps) [] k d h l = absurd (omega arith)
+price-at t (p ∷ ps) (x ∷ xs) zero d h l = refl
+price-at t (p ∷ ps) (x ∷ xs) (suc k) d h l = price-at t ps xs k d (omega arith) (omega arith)
 
 -- nothing is left to pay where the target is reached
 pub price-reached : (t : List ℕ) (ps : List Parameter) (xs : List ℤ) → total (prices t ps xs) xs ≡ 0
@@ -78,22 +75,24 @@ abbrev pub potential : (table : List ℕ) → (target : List ℤ) → List ℤ �
 potential t xs vs = total (prices t (parameters t) xs) vs
 
 -- no line of any bytes lowers it by more than its bytes and its 0D
-module _ (r : Room) (lines : Lines r) (xs : List ℤ) where
+module _ (r : Room) (lines : Lines r) (xs : List ℤ) (permits : Right r xs) where
   pub lowers : (vs : List ℤ) (l : List ℕ) → length l ≤ lineLimit → Right r vs → potential (r .table) xs vs ≤ length l + 1 + potential (r .table) xs (answer r vs l .values)
   lowers vs l n g = go (lines .effect vs l)
     where
       fs : List (ℤ → ℕ)
       fs = prices (r .table) (parameters (r .table)) xs
 
-      cost : (p : Parameter) (x : ℤ) → ((target : ℤ) → price (r .table) p target (getD vs (place p) (pos 0)) ≤ length l + 1 + price (r .table) p target x)
-          → Priced (r .table) p (getD fs (place p) free) → getD fs (place p) free (getD vs (place p) (pos 0)) ≤ length l + 1 + getD fs (place p) free x
-      cost p x c (priced y e) = rw e (c y)
-      cost p x c (unpriced e) = rw e (unfold free in omega arith)
+      -- the price of p, to its target
+      at-place : (p : Parameter) → parameterAt (parameters (r .table)) (place p) ≡ At p → getD fs (place p) free ≡ price (r .table) p (getD xs (place p) (pos 0))
+      at-place p e =
+          let here = at-inside (parameters (r .table)) (place p) p e in
+          price-at (r .table) (parameters (r .table)) xs (place p) p here (omega (arith, values-many r xs permits))
+          ∙ ap (λ q. price (r .table) q (getD xs (place p) (pos 0))) (at-element (parameters (r .table)) (place p) p p e)
 
       go : Effect r vs l → potential (r .table) xs vs ≤ length l + 1 + potential (r .table) xs (answer r vs l .values)
       go (nothing e) = rw e (omega arith)
       go (puts p x s e c) =
           let here = at-inside (parameters (r .table)) (place p) p (s .listed) in
           let changes = total-set fs vs (place p) x (omega (arith, values-many r vs g)) in
-          let is = at-element (parameters (r .table)) (place p) p p (s .listed) in
-          rw e (omega (arith, changes, cost p x c (rw is at (price-at (r .table) (parameters (r .table)) xs (place p) p))))
+          let spared = c g (getD xs (place p) (pos 0)) (value-permitted r xs (place p) p permits (s .listed)) in
+          rw e (omega (arith, rw (at-place p (s .listed)) at changes, spared))

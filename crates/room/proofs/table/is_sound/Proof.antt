@@ -18,21 +18,17 @@ is-sound-spec =
     (tie.spec
     Inv-loop
     μ-loop
-    (λ c. search (checking, needs))
-    (λ c. search (checking, needs))
-    (λ c. search (checking, needs))
-    (λ c. search (checking, needs))
-    (λ c κs. search (checking, needs))
-    (λ c. search (checking, needs))
-    (λ c. search (checking, needs))
-    (λ c. search (checking, needs))
-    (λ c. search (checking, needs))
-    (λ c. search (checking, needs))
-    (λ c. search (checking, needs))
-    (λ c κs. search (checking, needs))
-    (λ c. search (checking, needs))
-    (λ c. search (checking, needs))
-    (λ c. search (checking, needs))
-    (λ c. search (checking, needs))
-    (λ c. search (checking, needs))
-    (λ c. search (checking, needs)))
+    (λ c. search (checking, needs))  -- loop-holds
+    (λ c. search (checking, needs))  -- returns
+    (λ c. search (checking, needs))  -- shared-slice-read-kind
+    (λ c. search (checking, needs))  -- add-body
+    (λ c. search (checking, needs))  -- sub-sound-length
+    (λ c. search (checking, needs))  -- part-sound-length-start
+    (λ c. search (checking, needs))  -- part-sound-length-end
+    (λ c κs. search (checking, needs))  -- sound-length-requires
+    (λ c. search (checking, needs))  -- returns-2
+    (λ c. search (checking, needs))  -- add-place
+    (λ c. search (checking, needs))  -- sub-left
+    (λ c. search (checking, needs))  -- loop-less
+    (λ c. search (checking, needs))  -- loop-again
+    (λ c. search (checking, needs)))  -- returns-3

@@ -19,15 +19,17 @@ module-at-spec =
     (tie.spec
     Inv-loop
     μ-loop
-    (λ c. search (reaching, walking, needs))
-    (λ c κs. search (reaching, walking, needs))
-    (λ c. search (reaching, walking, needs))
-    (λ c. search (reaching, walking, needs))
-    (λ c. search (reaching, walking, needs))
-    (λ c κs. search (reaching, walking, needs))
-    (λ c. search (reaching, walking, needs))
-    (λ c κs. search (reaching, walking, needs))
-    (λ c. search (reaching, walking, needs))
-    (λ c. search (reaching, walking, needs))
-    (λ c. search (reaching, walking, needs))
-    (λ c. search (reaching, walking, needs)))
+    (λ c. search (reaching, walking, needs))  -- loop-holds
+    (λ c κs. search (reaching, walking, needs))  -- layout-at-requires
+    (λ c. search (reaching, walking, needs))  -- returns
+    (λ c. search (reaching, walking, needs))  -- add-at
+    (λ c κs. search (reaching, walking, needs))  -- layout-at-requires-2
+    (λ c κs. search (reaching, walking, needs))  -- row-count-requires
+    (λ c. search (reaching, walking, needs))  -- add-first
+    (λ c. search (reaching, walking, needs))  -- add-place
+    (λ c. search (reaching, walking, needs))  -- shared-slice-read-body-length
+    (λ c κs. search (reaching, walking, needs))  -- body-length-requires
+    (λ c. search (reaching, walking, needs))  -- add-place-2
+    (λ c. search (reaching, walking, needs))  -- loop-less
+    (λ c. search (reaching, walking, needs))  -- loop-again
+    (λ c. search (reaching, walking, needs)))  -- returns-2

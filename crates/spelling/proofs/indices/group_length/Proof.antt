@@ -8,6 +8,6 @@ pub group-length-spec : {M : Type 1} → statement M
 group-length-spec =
     tie.close
     (tie.spec
-    (λ c κs. search (group-lengths, needs))
-    (λ c. search (group-lengths, needs))
-    (λ c. search (group-lengths, needs)))
+    (λ c κs. search (group-lengths, needs))  -- number-length-requires
+    (λ c. search (group-lengths, needs))  -- add-result
+    (λ c. search (group-lengths, needs)))  -- returns

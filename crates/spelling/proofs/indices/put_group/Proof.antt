@@ -8,7 +8,7 @@ pub put-group-spec : {M : Type 1} → statement M
 put-group-spec =
     tie.close
     (tie.spec
-    (λ c κs. search (group-writing, needs))
-    (λ c κs. search (group-writing, needs))
-    (λ c. search (group-writing, needs))
-    (λ c. search (group-writing, needs)))
+    (λ c κs. search (group-writing, needs))  -- put-byte-requires
+    (λ c κs. search (group-writing, needs))  -- put-number-requires
+    (λ c. search (group-writing, needs))  -- same-length
+    (λ c. search (group-writing, needs)))  -- returns

@@ -1,4 +1,4 @@
--- `put_line`: what stands before the value, the value behind it, and 0D.
+-- `put_line`: each part has its line.
 use borrow.Author.Needs.{needs}
 use Rattle.spelling.specs.Line.Writing.{line-writing}
 use Rattle.spelling.proofs.line.put_line.Statement.{statement}
@@ -8,8 +8,11 @@ pub put-line-spec : {M : Type 1} → statement M
 put-line-spec =
     tie.close
     (tie.spec
-    (λ c κs. search (line-writing, needs))
-    (λ c κs. search (line-writing, needs))
-    (λ c κs. search (line-writing, needs))
-    (λ c. search (line-writing, needs))
-    (λ c. search (line-writing, needs)))
+    (λ c. search (line-writing, needs))  -- enum-told
+    (λ c κs. search (line-writing, needs))  -- put-whole-requires
+    (λ c. search (line-writing, needs))  -- enum-known-part
+    (λ c κs. search (line-writing, needs))  -- put-output-line-requires
+    (λ c. search (line-writing, needs))  -- same-length
+    (λ c. search (line-writing, needs))  -- returns
+    (λ c. search (line-writing, needs))  -- same-length-2
+    (λ c. search (line-writing, needs)))  -- returns-2

@@ -8,9 +8,9 @@ pub put-front-spec : {M : Type 1} → statement M
 put-front-spec =
     tie.close
     (tie.spec
-    (λ c. search (front-writing, needs))
-    (λ c κs. search (front-writing, needs))
-    (λ c κs. search (front-writing, needs))
-    (λ c κs. search (front-writing, needs))
-    (λ c. search (front-writing, needs))
-    (λ c. search (front-writing, needs)))
+    (λ c. search (front-writing, needs))  -- slice-aggregate-put-bytes
+    (λ c κs. search (front-writing, needs))  -- put-bytes-requires
+    (λ c κs. search (front-writing, needs))  -- put-name-requires
+    (λ c κs. search (front-writing, needs))  -- put-byte-requires
+    (λ c. search (front-writing, needs))  -- same-length
+    (λ c. search (front-writing, needs)))  -- returns

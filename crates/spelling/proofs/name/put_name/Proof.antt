@@ -8,7 +8,7 @@ pub put-name-spec : {M : Type 1} → statement M
 put-name-spec =
     tie.close
     (tie.spec
-    (λ c κs. search (name-writing, needs))
-    (λ c κs. search (name-writing, needs))
-    (λ c. search (name-writing, needs))
-    (λ c. search (name-writing, needs)))
+    (λ c κs. search (name-writing, needs))  -- put-quoted-requires
+    (λ c κs. search (name-writing, needs))  -- put-row-requires
+    (λ c. search (name-writing, needs))  -- same-length
+    (λ c. search (name-writing, needs)))  -- returns

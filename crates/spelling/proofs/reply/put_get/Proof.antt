@@ -9,7 +9,12 @@ pub put-get-spec : {M : Type 1} → statement M
 put-get-spec =
     tie.close
     (tie.spec
-    (λ c κs. search needs)
-    (λ c κs. search (get-writing, label-long, needs))
-    (λ c. search (get-writing, needs))
-    (λ c. search (get-writing, needs)))
+    (λ c κs. search (get-writing, label-long, needs))  -- label-length-requires
+    (λ c. search (get-writing, label-long, needs))  -- enum-told
+    (λ c κs. search (get-writing, label-long, needs))  -- put-whole-requires
+    (λ c. search (get-writing, label-long, needs))  -- enum-told-2
+    (λ c κs. search (get-writing, label-long, needs))  -- put-line-requires
+    (λ c. search (get-writing, label-long, needs))  -- same-length
+    (λ c. search (get-writing, label-long, needs))  -- returns
+    (λ c. search (get-writing, label-long, needs))  -- same-length-2
+    (λ c. search (get-writing, label-long, needs)))  -- returns-2

@@ -8,6 +8,7 @@ pub put-say-line-spec : {M : Type 1} → statement M
 put-say-line-spec =
     tie.close
     (tie.spec
-    (λ c κs. search (say-writing, needs))
-    (λ c. search (say-writing, needs))
-    (λ c. search (say-writing, needs)))
+    (λ c κs. search (say-writing, needs))  -- said-part-requires
+    (λ c κs. search (say-writing, needs))  -- put-line-requires
+    (λ c. search (say-writing, needs))  -- same-length
+    (λ c. search (say-writing, needs)))  -- returns

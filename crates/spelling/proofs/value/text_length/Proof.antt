@@ -16,4 +16,6 @@ text-length-spec =
     (λ c κs. search (text-lengths, needs))
     (λ c. search (text-lengths, needs))
     (λ c. search (text-lengths, needs))
+    (λ c. search (text-lengths, needs))
+    (λ c. search (text-lengths, needs))
     (λ c. search (text-lengths, needs)))

@@ -14,6 +14,9 @@ kind-value-spec =
     (λ c κs. search (kind-rules, needs))  -- switch-value-requires
     (λ c. search (kind-rules, needs))  -- enum-told-3
     (λ c κs. search (kind-rules, needs))  -- number-value-requires
+    (λ c. search (kind-rules, needs))  -- enum-told-4
+    (λ c κs. search (kind-rules, needs))  -- word-value-requires
     (λ c. search (kind-rules, needs))  -- returns
     (λ c. search (kind-rules, needs))  -- returns-2
-    (λ c. search (kind-rules, needs)))  -- returns-3
+    (λ c. search (kind-rules, needs))  -- returns-3
+    (λ c. search (kind-rules, needs)))  -- returns-4

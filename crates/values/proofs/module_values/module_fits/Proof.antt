@@ -1,32 +1,17 @@
--- `module_fits`: the values passed are permitted.
-use Prim.Native.Nat.{_-_}
+-- `module_fits`: a mixer's values, or those of another module.
 use borrow.Author.Needs.{needs}
-use lib.ListN.{length}
-use Rattle.catalogue.specs.Catalogue.Laws.{taking}
-use Rattle.values.specs.Permit.Testing.{Tested, testing}
+use Rattle.values.specs.Permit.Mixed.{mixers}
 use Rattle.values.proofs.module_values.module_fits.Statement.{statement}
 use Rattle.values.proofs.module_values.module_fits.Tie as tie
-
-abbrev Inv-loop : tie.InvT-loop
-Inv-loop rows values first j₀ j = Tested first values j
-
-abbrev μ-loop : tie.MeasureT-loop
-μ-loop rows values first j₀ j = length values - j
 
 pub module-fits-spec : {M : Type 1} → statement M
 module-fits-spec =
     tie.close
     (tie.spec
-    Inv-loop
-    μ-loop
-    (λ c κs. search (taking, testing, needs))  -- first-row-requires
-    (λ c. search (testing, needs))  -- loop-holds
-    (λ c. search (taking, testing, needs))  -- add-row-permits
-    (λ c. search (testing, needs))  -- mul-row-permits
-    (λ c. search (testing, needs))  -- shared-slice-copy-out-row-permits
-    (λ c κs. search (taking, testing, needs))  -- row-permits-requires
-    (λ c. search (testing, needs))  -- returns
-    (λ c. search (testing, needs))  -- add-j
-    (λ c. search (testing, needs))  -- loop-less
-    (λ c. search (testing, needs))  -- loop-again
-    (λ c. search (testing, needs)))  -- returns-2
+    (λ c κs. search (mixers, needs))  -- is-fixed-requires
+    (λ c κs. search (mixers, needs))  -- listed-fits-requires
+    (λ c. search (mixers, needs))  -- returns
+    (λ c. search (mixers, needs))  -- cast-mixer-fits
+    (λ c. search (mixers, needs))  -- cast-mixer-fits-2
+    (λ c κs. search (mixers, needs))  -- mixer-fits-requires
+    (λ c. search (mixers, needs)))  -- returns-2
