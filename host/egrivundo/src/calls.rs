@@ -61,6 +61,7 @@ extern "C" {
 /// assert_eq!(egrivundo::calls::table(&[1]), 1);
 /// ```
 #[inline]
+#[must_use = "0 is accepted, any other number refused"]
 pub fn table(table: &[u8]) -> u8 {
     unsafe { egrivundo_table(table.as_ptr(), table.len()) }
 }
@@ -95,6 +96,7 @@ pub fn log(table: &[u8], line: &[u8], told: &mut [u64; 3]) {
 /// assert_eq!(&reply[..4], b"\x1501\r");
 /// ```
 #[inline]
+#[must_use = "0 is accepted, any other number refused"]
 pub fn port(
     table: &[u8],
     values: &mut [i64],
@@ -121,6 +123,7 @@ pub fn port(
 
 /// The restore list. `told` becomes its bytes and lines.
 #[inline]
+#[must_use = "0 is accepted, any other number refused"]
 pub fn restore(
     table: &[u8],
     present: &[i64],

@@ -4,6 +4,7 @@ use std::fmt;
 /// looked for.
 #[derive(Clone, Copy, Debug, PartialEq, Eq)]
 #[repr(u8)]
+#[non_exhaustive]
 pub enum Cause {
     /// The line is over 64 bytes.
     Overrun = 1,
@@ -19,6 +20,7 @@ pub enum Cause {
 
 impl Cause {
     /// The number.
+    #[must_use]
     pub fn number(self) -> u8 {
         self as u8
     }

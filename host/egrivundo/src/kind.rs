@@ -1,5 +1,10 @@
+use std::fmt;
+
+use crate::{rows, Index, Kind, Row};
+
 /// The module types, a mixer with its size.
 #[derive(Clone, Copy, Debug, PartialEq, Eq)]
+#[non_exhaustive]
 pub enum Type {
     /// Tone Control EQ: levels at 1, 3, 5, switches at 2, 4, 6.
     ToneControlEq,
@@ -27,16 +32,6 @@ pub enum Type {
 /// Bytes of a label's field.
 const FIELD: usize = 32;
 
-const ROUTER: [i64; 33] = {
-    let mut start = [0; 33];
-    start[5] = -60; // 0>8
-    start[14] = 1; // 1>9
-    start
-};
-
-/// The values of a mixer of any two bytes as its sizes.
-static MIXER: [i64; 5 * 255] = [0; 5 * 255];
-
 impl Type {
     /// Those whose rows are fixed, by their number.
     pub const FIXED: [Type; 6] = [
@@ -49,6 +44,7 @@ impl Type {
     ];
 
     /// The record's kind byte.
+    #[must_use]
     pub fn number(self) -> u8 {
         match self {
             Type::ToneControlEq => 1,
@@ -58,6 +54,20 @@ impl Type {
             Type::ConferenceRouter => 5,
             Type::FeedbackSuppression => 6,
             Type::StandardMixer { .. } => 7,
+        }
+    }
+
+    /// The type's name.
+    #[must_use]
+    pub fn name(self) -> &'static str {
+        match self {
+            Type::ToneControlEq => "Tone Control EQ",
+            Type::SmartBass => "SmartBass",
+            Type::DynamicEq => "Dynamic EQ",
+            Type::RoomCombiner => "Standard Room Combiner",
+            Type::ConferenceRouter => "Conference Room Router",
+            Type::FeedbackSuppression => "Predictive Feedback Suppression",
+            Type::StandardMixer { .. } => "Standard Mixer",
         }
     }
 
@@ -75,6 +85,7 @@ impl Type {
     /// assert_eq!(Type::SmartBass.record("S").unwrap().len(), 33);
     /// assert_eq!(Type::SmartBass.record(&"x".repeat(33)), None);
     /// ```
+    #[must_use]
     pub fn record(self, label: &str) -> Option<Vec<u8>> {
         // A zero byte would be taken for the label's end.
         if label.len() > FIELD || label.contains('\0') {
@@ -108,7 +119,8 @@ impl Type {
     }
 
     /// The values that a module starts with, row by row: 0 where it is
-    /// permitted, else the row's low.
+    /// permitted, else the row's low. A mixer of a size that there is not has
+    /// none.
     ///
     /// ```
     /// use egrivundo::Type;
@@ -118,21 +130,79 @@ impl Type {
     /// let desk = Type::StandardMixer { inputs: 8, outputs: 4 };
     /// assert_eq!(desk.start(), [0; 32]);
     /// ```
-    pub fn start(self) -> &'static [i64] {
-        match self {
-            Type::ToneControlEq => &[0; 6],
-            Type::SmartBass | Type::DynamicEq => &[0],
-            Type::RoomCombiner => &[0; 7],
-            Type::ConferenceRouter => &ROUTER,
-            Type::FeedbackSuppression => &[0, 1],
-            Type::StandardMixer { inputs, outputs } => {
-                &MIXER[..3 * usize::from(inputs) + 2 * usize::from(outputs)]
-            }
-        }
+    #[must_use]
+    pub fn start(self) -> Vec<i64> {
+        rows::starts(&self.alone()).unwrap_or_default()
     }
 
-    /// How many parameters a module has.
-    pub fn rows(self) -> usize {
-        self.start().len()
+    /// The rows of a module, in the order of its values. A mixer of a size that
+    /// there is not has none.
+    ///
+    /// ```
+    /// use egrivundo::{Kind, Type};
+    ///
+    /// let rows = Type::FeedbackSuppression.rows();
+    /// assert_eq!(rows[0].index.to_string(), "0>2");
+    /// assert_eq!(rows[0].kind, Kind::Switch);
+    /// assert_eq!((rows[1].low, rows[1].high), (1, 43_200));
+    /// assert!(!Type::ConferenceRouter.rows()[0].settable);
+    /// let desk = Type::StandardMixer { inputs: 8, outputs: 33 };
+    /// assert!(desk.rows().is_empty());
+    /// ```
+    #[must_use]
+    pub fn rows(self) -> Vec<Row> {
+        let table = self.alone();
+        (0..).map_while(|row| rows::row(&table, 0, row)).collect()
+    }
+
+    /// The number of the row that an index names, and the output where it
+    /// names one output of a word.
+    ///
+    /// ```
+    /// use egrivundo::{Index, Type};
+    ///
+    /// let desk = Type::StandardMixer { inputs: 2, outputs: 3 };
+    /// assert_eq!(desk.find(Index::Two(3, 1)), Some((10, None)));
+    /// let last = Index::Crosspoint { input: 2, output: 3 };
+    /// assert_eq!(desk.find(last), Some((11, Some(3))));
+    /// assert_eq!(desk.find(Index::One(3)), None);
+    /// ```
+    #[must_use]
+    pub fn find(self, index: Index) -> Option<(usize, Option<u16>)> {
+        let (sought, output) = match index {
+            Index::Crosspoint { input, output } => (Index::Two(3, input), Some(output)),
+            whole => (whole, None),
+        };
+        let has = |row: &Row| match output {
+            None => true,
+            Some(output) => {
+                row.kind == Kind::Word
+                    && (1..=32).contains(&output)
+                    && row.permits(crate::bit(output))
+            }
+        };
+        let rows = self.rows();
+        let number = rows
+            .iter()
+            .position(|row| row.index == sought && has(row))?;
+        Some((number, output))
+    }
+
+    /// A table of one such module.
+    fn alone(self) -> Vec<u8> {
+        self.record("x").expect("a short label")
+    }
+}
+
+/// The name, a mixer's with its size: `Standard Mixer 8x4`.
+impl fmt::Display for Type {
+    fn fmt(&self, out: &mut fmt::Formatter) -> fmt::Result {
+        let name = self.name();
+        match self {
+            Type::StandardMixer { inputs, outputs } => {
+                out.pad(&format!("{name} {inputs}x{outputs}"))
+            }
+            _ => out.pad(name),
+        }
     }
 }

@@ -33,17 +33,24 @@
 
 pub mod calls;
 mod fault;
+mod index;
 mod kind;
 mod list;
 mod port;
 mod refusal;
 mod reply;
 mod room;
+mod row;
+mod rows;
+mod wish;
 
 pub use fault::{Cause, Fault};
+pub use index::{Index, IndexError};
 pub use kind::Type;
 pub use list::List;
 pub use port::Port;
 pub use refusal::Refusal;
 pub use reply::Reply;
 pub use room::{Fed, Module, Room};
+pub use row::{bit, Kind, Row};
+pub use wish::{Beyond, Why, Wish, WishError};

@@ -1,5 +1,6 @@
 /// A restore list: SA lines, each with its 0x0D.
 #[derive(Clone, Debug, PartialEq, Eq)]
+#[must_use = "a list does nothing until it is sent"]
 pub struct List {
     pub(crate) bytes: Vec<u8>,
     pub(crate) lines: usize,

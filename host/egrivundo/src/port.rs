@@ -27,6 +27,7 @@ impl Port {
     /// assert_eq!(port.held(), b"");
     /// assert!(!port.overrun());
     /// ```
+    #[must_use]
     pub const fn new() -> Port {
         Port {
             bytes: [0; Port::BYTES],
@@ -55,11 +56,13 @@ impl Port {
     }
 
     /// Whether the line has grown over 64 bytes.
+    #[must_use]
     pub fn overrun(&self) -> bool {
         self.bytes[1] != 0
     }
 
     /// The bytes of the unfinished line; none after an overrun.
+    #[must_use]
     pub fn held(&self) -> &[u8] {
         if self.overrun() {
             return &[];
@@ -68,6 +71,7 @@ impl Port {
     }
 
     /// Whether this is the fresh port.
+    #[must_use]
     pub fn is_fresh(&self) -> bool {
         *self == Port::new()
     }

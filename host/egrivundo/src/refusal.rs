@@ -3,6 +3,7 @@ use std::{error, fmt};
 /// Why a call was refused, with the paper's number.
 #[derive(Clone, Copy, Debug, PartialEq, Eq)]
 #[repr(u8)]
+#[non_exhaustive]
 pub enum Refusal {
     /// The table is not sound.
     Table = 1,
@@ -25,6 +26,7 @@ pub enum Refusal {
 
 impl Refusal {
     /// The number.
+    #[must_use]
     pub fn number(self) -> u8 {
         self as u8
     }

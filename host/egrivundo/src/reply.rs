@@ -4,6 +4,7 @@ use crate::{Fault, Port};
 
 /// The reply of one port call; empty where no line was finished.
 #[derive(Clone)]
+#[must_use = "a reply tells whether the line was taken"]
 pub struct Reply {
     pub(crate) buffer: [u8; Port::REPLY],
     pub(crate) length: usize,

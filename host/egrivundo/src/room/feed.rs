@@ -5,6 +5,7 @@ use crate::{calls, Fault, Port, Refusal, Reply};
 
 /// What one port call did.
 #[derive(Clone, Debug, PartialEq, Eq)]
+#[must_use = "bytes may be left, and the reply is to be sent"]
 pub struct Fed {
     /// How many of the given bytes were consumed.
     pub consumed: usize,
@@ -78,7 +79,8 @@ impl Room {
     pub fn line(&mut self, line: &[u8]) -> Result<Reply, Refusal> {
         assert!(!line.contains(&b'\r'), "one line has no 0x0D in it");
         let mut port = Port::new();
-        self.feed(&mut port, line)?;
+        // All is consumed, and finishes no line.
+        let _ = self.feed(&mut port, line)?;
         Ok(self.feed(&mut port, b"\r")?.reply)
     }
 }

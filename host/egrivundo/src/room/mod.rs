@@ -1,4 +1,4 @@
-use crate::{calls, Port, Refusal, Type};
+use crate::{calls, rows, Port, Refusal, Type};
 
 mod feed;
 mod restore;
@@ -10,6 +10,8 @@ pub use feed::Fed;
 pub struct Room {
     table: Vec<u8>,
     values: Vec<i64>,
+    /// Where the values of each module start.
+    starts: Vec<usize>,
 }
 
 /// One module of a room.
@@ -50,11 +52,10 @@ impl Room {
     /// ```
     pub fn new(modules: &[(Type, &str)]) -> Result<Room, Refusal> {
         let mut table = Vec::new();
-        let mut values = Vec::new();
         for (kind, label) in modules {
             table.extend(kind.record(label).ok_or(Refusal::Table)?);
-            values.extend_from_slice(kind.start());
         }
+        let values = rows::starts(&table).ok_or(Refusal::Table)?;
         Room::from_parts(table, values)
     }
 
@@ -71,9 +72,16 @@ impl Room {
     /// assert_eq!(Room::from_parts(table, vec![1]), Err(Refusal::Table));
     /// ```
     pub fn from_parts(table: Vec<u8>, values: Vec<i64>) -> Result<Room, Refusal> {
-        let mut room = Room { table, values };
+        let starts = (0..)
+            .map_while(|module| rows::place(&table, module, 0))
+            .collect();
+        let mut room = Room {
+            table,
+            values,
+            starts,
+        };
         // Zero bytes given change nothing, and are refused as any others.
-        room.feed(&mut Port::new(), &[])?;
+        let _ = room.feed(&mut Port::new(), &[])?;
         Ok(room)
     }
 
@@ -90,19 +98,21 @@ impl Room {
     /// The modules in table order.
     pub fn modules(&self) -> impl Iterator<Item = Module<'_>> {
         let mut rest = &self.table[..];
-        let mut start = 0;
-        std::iter::from_fn(move || {
-            let (kind, label, record) = Type::first(rest)?;
-            let module = Module {
-                kind,
-                label,
-                start,
-                values: &self.values[start..start + kind.rows()],
-            };
-            rest = &rest[record.len()..];
-            start += kind.rows();
-            Some(module)
-        })
+        let ends = self.starts.iter().skip(1).copied();
+        let ends = ends.chain([self.values.len()]);
+        self.starts
+            .iter()
+            .zip(ends)
+            .map_while(move |(&start, end)| {
+                let (kind, label, record) = Type::first(rest)?;
+                rest = &rest[record.len()..];
+                Some(Module {
+                    kind,
+                    label,
+                    start,
+                    values: &self.values[start..end],
+                })
+            })
     }
 
     /// The label that a line means, for a log: as it stands in the table
