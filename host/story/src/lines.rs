@@ -2,7 +2,10 @@
 //!
 //!     # a remark
 //!     module REST
-//!     INDEX = VALUE
+//!     INDEX = VALUE     # a remark
+//!
+//! A byte-order mark before the first line means nothing, and a tab is as
+//! good as a space.
 
 /// What is wrong, and on which line.
 #[derive(Debug, PartialEq, Eq)]
@@ -40,14 +43,16 @@ pub enum Content<'a> {
 
 /// The statements of a file, without empty lines and remarks.
 pub fn statements(text: &str) -> Result<Vec<Statement<'_>>, Fault> {
+    let text = text.strip_prefix('\u{feff}').unwrap_or(text);
     let mut found = Vec::new();
     for (number, line) in text.lines().enumerate() {
         let number = number + 1;
-        let line = line.trim();
-        if line.is_empty() || line.starts_with('#') {
+        let line = without_remark(line).trim();
+        if line.is_empty() {
             continue;
         }
-        let content = if let Some(rest) = line.strip_prefix("module ") {
+        let (first, rest) = line.split_once(char::is_whitespace).unwrap_or((line, ""));
+        let content = if first == "module" {
             Content::Module(rest.trim())
         } else if let Some((index, value)) = line.split_once('=') {
             Content::Value(index.trim(), value.trim())
@@ -61,6 +66,16 @@ pub fn statements(text: &str) -> Result<Vec<Statement<'_>>, Fault> {
         });
     }
     Ok(found)
+}
+
+/// A line without its remark; a `#` between quotes begins none.
+fn without_remark(line: &str) -> &str {
+    let mut quoted = false;
+    let end = line.find(|letter| {
+        quoted ^= letter == '"';
+        letter == '#' && !quoted
+    });
+    &line[..end.unwrap_or(line.len())]
 }
 
 /// The label between the quotes that begin and end a text.
@@ -94,6 +109,17 @@ mod tests {
         assert_eq!(places, [3, 4]);
         assert!(matches!(found[1].content, Content::Value("1>2", "3")));
         assert_eq!(statements("\nnonsense").err().unwrap().line, 2);
+    }
+
+    #[test]
+    fn marks_tabs_and_remarks_behind() {
+        let text = "\u{feff}module\t1\t\"T #1\" # the first\n\t1\t=\t-4# before: -6.5\r\n";
+        let found = statements(text).ok().unwrap();
+        assert!(matches!(found[0].content, Content::Module("1\t\"T #1\"")));
+        assert!(matches!(found[1].content, Content::Value("1", "-4")));
+        assert_eq!(found.len(), 2);
+        // A mark elsewhere is a letter as any other.
+        assert!(statements("\n\u{feff}module 1\n").is_err());
     }
 
     #[test]

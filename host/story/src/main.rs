@@ -1,51 +1,101 @@
 //! The editor's question: bring one module back to its balance, with as few
 //! bytes as can be, and move nothing else.
 //!
-//!     story ROOM WISH
-//!
-//! Both are text files; `host/README.md` tells their form. The status is 0
-//! where the wish is fulfilled, 1 where a file is wrong or the core refuses,
-//! 2 for other arguments.
+//! `help.txt` has the options, `host/README.md` the form of the files.
 
+mod answer;
 mod given;
+mod html;
 mod lines;
+mod options;
+mod paint;
 mod parameter;
-mod refusal;
-mod report;
 mod room_file;
+mod saved;
+mod text;
 mod types;
 mod value;
 mod wish_file;
+mod words;
 
+use std::io::Write;
 use std::path::Path;
 use std::process::ExitCode;
-use std::{env, fs};
+use std::{env, fs, io};
+
+use answer::Answer;
+use options::{From, Options, HELP};
+use words::counted;
 
 fn main() -> ExitCode {
-    let arguments: Vec<String> = env::args().skip(1).collect();
-    let [room, wish] = &arguments[..] else {
-        eprintln!("Two arguments are needed: a room file and a wish file.");
-        return ExitCode::from(2);
-    };
-    match play(Path::new(room), Path::new(wish)) {
-        Ok(story) => {
-            print!("{story}");
+    match options::read(env::args_os().skip(1)) {
+        Ok(None) => {
+            print(HELP);
             ExitCode::SUCCESS
         }
-        Err(message) => {
+        Ok(Some(options)) => play(&options).unwrap_or_else(|message| {
             eprintln!("{message}");
             ExitCode::FAILURE
+        }),
+        Err(message) => {
+            eprintln!("{message} (./run --help tells the options)");
+            ExitCode::from(2)
         }
     }
 }
 
-/// Reads both files and tells the story, or what is wrong.
-fn play(room_path: &Path, wish_path: &Path) -> Result<String, String> {
-    let (text, name) = read(room_path)?;
-    let room = room_file::parse(&text).map_err(|fault| fault.in_file(&name))?;
-    let (text, name) = read(wish_path)?;
-    let wish = wish_file::parse(&text, &room).map_err(|fault| fault.in_file(&name))?;
-    report::tell(&room, &wish, &name)
+/// Reads the files, asks, and tells the answer, or what is wrong.
+fn play(options: &Options) -> Result<ExitCode, String> {
+    let room = read_room(&options.room)?;
+    let (wish, wish_name) = match &options.from {
+        From::Wish(path) => {
+            let (text, name) = read(path)?;
+            let wish = wish_file::parse(&text, &room).map_err(|fault| fault.in_file(&name))?;
+            (wish, name)
+        }
+        From::Saved(path, labels) => {
+            let then = read_room(path)?;
+            let name = path.display().to_string();
+            (saved::wish(&room, &then, labels, &name)?, name)
+        }
+    };
+    let answer = answer::ask(&room, &wish)?;
+    let paint = paint::Paint::for_output();
+    print(&text::tell(&answer, &wish_name, options.all, paint));
+    write(options, &answer)?;
+    Ok(match answer {
+        Answer::Yes(_) => ExitCode::SUCCESS,
+        Answer::No(_) => ExitCode::FAILURE,
+    })
+}
+
+/// The files that were asked for; where the answer is no there is no list.
+fn write(options: &Options, answer: &Answer) -> Result<(), String> {
+    if let (Some(path), Answer::Yes(yes)) = (&options.list, answer) {
+        let bytes = yes.list.bytes();
+        write_file(path, bytes)?;
+        let bytes = counted(bytes.len(), "byte");
+        print(&format!("\nThe list, {bytes}: {}\n", path.display()));
+    }
+    if let Some(path) = &options.html {
+        write_file(path, html::page(answer, options.all).as_bytes())?;
+        print(&format!("\nThe page: {}\n", path.display()));
+    }
+    Ok(())
+}
+
+fn write_file(path: &Path, bytes: &[u8]) -> Result<(), String> {
+    fs::write(path, bytes).map_err(|error| format!("{}: {error}", path.display()))
+}
+
+/// To standard output, which a reader may have closed.
+fn print(text: &str) {
+    let _ = io::stdout().write_all(text.as_bytes());
+}
+
+fn read_room(path: &Path) -> Result<egrivundo::Room, String> {
+    let (text, name) = read(path)?;
+    room_file::parse(&text).map_err(|fault| fault.in_file(&name))
 }
 
 fn read(path: &Path) -> Result<(String, String), String> {

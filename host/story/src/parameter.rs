@@ -1,11 +1,9 @@
-//! Parameters in the files and in the story: `INDEX = VALUE`.
+//! Parameters in the files: `INDEX = VALUE`.
 
-use egrivundo::Type;
-use reference::catalogue::{Index, Kind};
+use egrivundo::{bit, Index, Kind, Type};
 
 use crate::lines::Fault;
-use crate::types::{layout, type_name};
-use crate::value::{bit, range, read_value};
+use crate::value::{range, read_value};
 
 /// What one statement sets: a row of a module, or one output of a word.
 #[derive(Debug, PartialEq, Eq)]
@@ -13,7 +11,8 @@ pub struct Setting {
     /// The row's number.
     pub row: usize,
     pub output: Option<u16>,
-    value: i64,
+    pub index: Index,
+    pub value: i64,
 }
 
 impl Setting {
@@ -29,44 +28,26 @@ impl Setting {
 
 /// Reads `INDEX = VALUE`; `4>(INPUT,OUTPUT)` is one output of an input's word.
 pub fn read_setting(kind: Type, index: &str, value: &str, line: usize) -> Result<Setting, Fault> {
-    let wrong = |takes: String| Fault::new(line, format!("{index} takes {takes}, not: {value}"));
-    if let Some((input, output)) = read_crosspoint(kind, index) {
-        let value = read_value(Kind::Switch, value);
-        let (row, _) = layout(kind)
-            .find((3, Some(input)))
-            .expect("a word of each input");
-        return Ok(Setting {
-            row,
-            output: Some(output),
-            value: value.ok_or_else(|| wrong("on or off".to_string()))?,
-        });
-    }
-    let mut rows = layout(kind).rows().enumerate();
-    let found = rows.find(|(_, row)| index_text(row.index, None) == index);
-    let (row, limits) = found.ok_or_else(|| {
-        let message = format!(
-            "a {} has no index {index} ({})",
-            type_name(kind),
-            indices(kind)
-        );
-        Fault::new(line, message)
-    })?;
-    let value = read_value(limits.kind, value).filter(|&value| limits.permits(value));
+    let wrong = |takes: &str| Fault::new(line, format!("{index} takes {takes}, not: {value}"));
+    let named = index.parse().ok();
+    let found = named.and_then(|named| Some((named, kind.find(named)?)));
+    let Some((named, (row, output))) = found else {
+        let message = format!("a {kind} has no index {index} (it has {})", indices(kind));
+        return Err(Fault::new(line, message));
+    };
+    let limits = kind.rows()[row];
+    let value = match output {
+        Some(_) => read_value(Kind::Switch, value).ok_or_else(|| wrong("on or off"))?,
+        None => read_value(limits.kind, value)
+            .filter(|&value| limits.permits(value))
+            .ok_or_else(|| wrong(&range(&limits)))?,
+    };
     Ok(Setting {
         row,
-        output: None,
-        value: value.ok_or_else(|| wrong(range(limits)))?,
+        output,
+        index: named,
+        value,
     })
-}
-
-/// Input and output of `4>(INPUT,OUTPUT)`, where the mixer has them.
-fn read_crosspoint(kind: Type, index: &str) -> Option<(u16, u16)> {
-    let Type::StandardMixer { inputs, outputs } = kind else {
-        return None;
-    };
-    let mut all =
-        (1..=u16::from(inputs)).flat_map(|i| (1..=u16::from(outputs)).map(move |o| (i, o)));
-    all.find(|&(input, output)| index_text((3, Some(input)), Some(output)) == index)
 }
 
 /// The indices that a type has, in words.
@@ -77,19 +58,14 @@ fn indices(kind: Type) -> String {
     } = kind
     {
         let channels = format!("1>1 to 1>{}, 2>1 to 2>{}", 2 * m, 2 * n);
-        return format!("it has {channels}, 3>1 to 3>{m}, 4>(1,1) to 4>({m},{n})");
+        return format!("{channels}, 3>1 to 3>{m}, 4>(1,1) to 4>({m},{n})");
     }
-    let indices = layout(kind).rows().map(|row| index_text(row.index, None));
-    format!("it has {}", indices.collect::<Vec<_>>().join(", "))
-}
-
-/// `1` or `1>2`; for an output of a word `4>(1,2)`.
-pub fn index_text(index: Index, output: Option<u16>) -> String {
-    match (index, output) {
-        ((_, Some(input)), Some(output)) => format!("4>({input},{output})"),
-        ((first, Some(second)), _) => format!("{first}>{second}"),
-        ((first, None), _) => first.to_string(),
-    }
+    let indices: Vec<String> = kind
+        .rows()
+        .iter()
+        .map(|row| row.index.to_string())
+        .collect();
+    indices.join(", ")
 }
 
 #[cfg(test)]
@@ -111,7 +87,7 @@ mod tests {
     fn values() {
         let tone = Type::ToneControlEq;
         assert_eq!(read(tone, "1", "-4"), Some(-40));
-        assert_eq!(read(tone, "1", "-0.5"), Some(-5));
+        assert_eq!(read(tone, ">1", "-0.5"), Some(-5));
         assert_eq!(read(tone, "1", "15.0"), Some(150));
         for wrong in [
             "15.1",
@@ -127,9 +103,14 @@ mod tests {
         ] {
             assert_eq!(read(tone, "1", wrong), None, "{wrong}");
         }
-        assert_eq!(read(tone, "2", "on"), Some(1));
-        assert_eq!(read(tone, "2", "1"), None);
+        for (text, value) in [("on", 1), ("O", 1), ("off", 0), ("F", 0)] {
+            assert_eq!(read(tone, "2", text), Some(value), "{text}");
+        }
+        for wrong in ["1", "0", "o", "f", "T", "On"] {
+            assert_eq!(read(tone, "2", wrong), None, "{wrong}");
+        }
         assert_eq!(read(tone, "1>1", "1"), None);
+        assert_eq!(read(tone, ">>1", "1"), None);
         assert_eq!(read(Type::RoomCombiner, "1>2", "-3.2"), None);
         assert_eq!(read(Type::RoomCombiner, "1>1", "9"), Some(9));
         assert_eq!(read(Type::FeedbackSuppression, "1>1", "43201"), None);
@@ -139,9 +120,9 @@ mod tests {
     #[test]
     fn every_row_reads_what_is_shown() {
         for kind in Type::FIXED.into_iter().chain([DESK]) {
-            for (place, row) in layout(kind).rows().enumerate() {
-                for value in [row.low, row.high, row.start()] {
-                    let index = index_text(row.index, None);
+            for (place, row) in kind.rows().iter().enumerate() {
+                for value in [row.low, row.high, kind.start()[place]] {
+                    let index = row.index.to_string();
                     let text = value_text(row.kind, value);
                     let setting = read_setting(kind, &index, &text, 1).unwrap();
                     assert_eq!((setting.row, setting.output), (place, None));
@@ -155,7 +136,7 @@ mod tests {
     fn words_and_outputs() {
         assert_eq!(read(DESK, "3>2", "80400000"), Some(0x8040_0000));
         assert_eq!(read(DESK, "3>2", "80200000"), None);
-        assert_eq!(read(DESK, "4>(2,10)", "on"), Some(0x0040_0000));
+        assert_eq!(read(DESK, ">4>(2,10)", "O"), Some(0x0040_0000));
         let off = read_setting(DESK, "4>(1,2)", "off", 1).unwrap();
         assert_eq!((off.row, off.output), (24, Some(2)));
         assert_eq!(off.over(0xC000_0000), 0x8000_0000);
@@ -164,7 +145,7 @@ mod tests {
             ("4>(3,1)", "on"),
             ("4>(1,11)", "on"),
             ("4>(1,0)", "on"),
-            ("4>(1,1)", "O"),
+            ("4>(1,1)", "T"),
             ("4>(1,1)", "80000000"),
             ("3>(1,1)", "on"),
             ("4>1", "on"),

@@ -29,7 +29,7 @@ pub fn parse(text: &str) -> Result<Room, Fault> {
                 let (kind, label) = read_module(rest, line)?;
                 modules.push((kind, label));
                 start = values.len();
-                values.extend_from_slice(kind.start());
+                values.extend(kind.start());
             }
             Content::Value(index, value) => {
                 let Some(&(kind, _)) = modules.last() else {

@@ -1,27 +1,39 @@
 //! Module types in the files and in the story.
 
 use egrivundo::Type;
-use reference::layout::Layout;
 
 use crate::lines::{quoted, Fault};
 
 const MIXER: &str = "standard-mixer";
 
+const WISH_GIVEN: &str = "this is a wish, where a room is expected: in a room each module has its \
+                          type before the label. The room comes first: ./run ROOM WISH";
+
+/// Said of a room that is given as a wish.
+pub const ROOM_GIVEN: &str =
+    "this is a room, where a wish is expected: in a wish a module is named \
+                              by its label alone. The wish comes last: ./run ROOM WISH";
+
 /// Type and label of a room's module: `TYPE "LABEL"`, and behind a mixer's
 /// label its size, `8x4` for eight inputs and four outputs.
 pub fn read_module(text: &str, line: usize) -> Result<(Type, &str), Fault> {
-    let Some((kind, rest)) = text.split_once(' ') else {
+    if text.starts_with('"') || text.parse::<usize>().is_ok() {
+        return Err(Fault::new(line, WISH_GIVEN));
+    }
+    let Some((kind, rest)) = text.split_once(char::is_whitespace) else {
         return Err(Fault::new(line, "write: module TYPE \"LABEL\""));
     };
     let rest = rest.trim();
     if kind != MIXER && kind != "7" {
         return Ok((read_fixed(kind, line)?, quoted(rest, line)?));
     }
-    let sized = rest.rsplit_once(' ').and_then(|(label, size)| {
-        let (inputs, outputs) = size.split_once('x')?;
-        let (inputs, outputs) = (read_size(inputs)?, read_size(outputs)?);
-        Some((Type::StandardMixer { inputs, outputs }, label.trim()))
-    });
+    let sized = rest
+        .rsplit_once(char::is_whitespace)
+        .and_then(|(label, size)| {
+            let (inputs, outputs) = size.split_once('x')?;
+            let (inputs, outputs) = (read_size(inputs)?, read_size(outputs)?);
+            Some((Type::StandardMixer { inputs, outputs }, label.trim()))
+        });
     let Some((kind, label)) = sized else {
         let message = "a mixer has 1 to 32 inputs and outputs: module standard-mixer \"LABEL\" 8x4";
         return Err(Fault::new(line, message));
@@ -46,6 +58,7 @@ fn read_fixed(text: &str, line: usize) -> Result<Type, Fault> {
     })
 }
 
+/// Of a type with fixed rows.
 fn word(kind: Type) -> &'static str {
     match kind {
         Type::ToneControlEq => "tone-control-eq",
@@ -54,28 +67,7 @@ fn word(kind: Type) -> &'static str {
         Type::RoomCombiner => "room-combiner",
         Type::ConferenceRouter => "conference-router",
         Type::FeedbackSuppression => "feedback-suppression",
-        Type::StandardMixer { .. } => MIXER,
-    }
-}
-
-/// A type's name in the story.
-pub fn type_name(kind: Type) -> String {
-    match kind {
-        Type::ToneControlEq => "Tone Control EQ".to_string(),
-        Type::SmartBass => "SmartBass".to_string(),
-        Type::DynamicEq => "Dynamic EQ".to_string(),
-        Type::RoomCombiner => "Standard Room Combiner".to_string(),
-        Type::ConferenceRouter => "Conference Room Router".to_string(),
-        Type::FeedbackSuppression => "Predictive Feedback Suppression".to_string(),
-        Type::StandardMixer { inputs, outputs } => format!("Standard Mixer {inputs}x{outputs}"),
-    }
-}
-
-/// What has the type's rows.
-pub fn layout(kind: Type) -> Layout {
-    match kind {
-        Type::StandardMixer { inputs, outputs } => Layout::mixer(inputs, outputs),
-        _ => Layout::of(kind.number()),
+        _ => "",
     }
 }
 
@@ -91,6 +83,7 @@ mod tests {
             ("2  \"Two words\"", (Type::SmartBass, "Two words")),
             ("standard-mixer \"Desk\" 8x4", (desk(8, 4), "Desk")),
             ("7 \"Two 1x1\"  32x1", (desk(32, 1), "Two 1x1")),
+            ("7\t\"Tab\"\t2x1", (desk(2, 1), "Tab")),
         ] {
             assert_eq!(read_module(text, 1), Ok(module), "{text}");
         }
@@ -115,15 +108,13 @@ mod tests {
     }
 
     #[test]
-    fn layouts() {
-        let desk = Type::StandardMixer {
-            inputs: 9,
-            outputs: 32,
-        };
-        for kind in Type::FIXED.into_iter().chain([desk]) {
-            let starts: Vec<i64> = layout(kind).rows().map(|row| row.start()).collect();
-            assert_eq!(starts, kind.start());
-            assert!(!type_name(kind).is_empty());
+    fn wishes() {
+        for text in ["\"Commentary\"", "\"Two words\"", "3"] {
+            assert_eq!(
+                read_module(text, 7),
+                Err(Fault::new(7, WISH_GIVEN)),
+                "{text}"
+            );
         }
     }
 }

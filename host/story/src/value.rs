@@ -1,8 +1,9 @@
 //! Values in the files and in the story.
 
-use reference::catalogue::{Kind, Row};
+use egrivundo::{bit, Kind, Row};
 
-/// A value as a file writes it: `-4`, `0.5`; `on`, `off`; `3`; `80000001`.
+/// A value as a file writes it: `-4`, `0.5`; `on` or `O`, `off` or `F`; `3`;
+/// `80000001`.
 pub fn read_value(kind: Kind, text: &str) -> Option<i64> {
     let digits = |text: &str| match text.bytes().all(|byte| byte.is_ascii_digit()) {
         true => text.parse::<i64>().ok().filter(|&number| number < 100_000),
@@ -10,8 +11,8 @@ pub fn read_value(kind: Kind, text: &str) -> Option<i64> {
     };
     match kind {
         Kind::Switch => match text {
-            "on" => Some(1),
-            "off" => Some(0),
+            "on" | "O" => Some(1),
+            "off" | "F" => Some(0),
             _ => None,
         },
         Kind::Number => digits(text),
@@ -31,6 +32,7 @@ pub fn read_value(kind: Kind, text: &str) -> Option<i64> {
             }
             Some(sign * (digits(whole)? * 10 + digits(tenth)?))
         }
+        _ => None,
     }
 }
 
@@ -48,8 +50,9 @@ pub fn range(row: &Row) -> String {
             "a level from {} to {} dB in steps of {}",
             tenths(row.low),
             tenths(row.high),
-            tenths(i64::from(row.step))
+            tenths(row.step)
         ),
+        _ => format!("{} to {} in steps of {}", row.low, row.high, row.step),
     }
 }
 
@@ -58,28 +61,15 @@ pub fn value_text(kind: Kind, value: i64) -> String {
     match kind {
         Kind::Switch if value == 1 => "on".to_string(),
         Kind::Switch => "off".to_string(),
-        Kind::Number => value.to_string(),
         Kind::Word => format!("{value:08X}"),
         Kind::Level => tenths(value),
+        _ => value.to_string(),
     }
 }
 
 fn tenths(value: i64) -> String {
     let sign = if value < 0 { "-" } else { "" };
     format!("{sign}{}.{}", value.abs() / 10, value.abs() % 10)
-}
-
-/// The bit of an output in a word.
-pub fn bit(output: u16) -> i64 {
-    1 << (32 - output)
-}
-
-/// What is meant of a value: the whole, or as a switch one output of a word.
-pub fn meant(kind: Kind, value: i64, output: Option<u16>) -> (Kind, i64) {
-    match output {
-        None => (kind, value),
-        Some(output) => (Kind::Switch, i64::from(value & bit(output) != 0)),
-    }
 }
 
 /// The outputs of a word: `no output`, `output 3`, `outputs 1-4, 7`.
@@ -102,6 +92,16 @@ pub fn outputs(word: i64) -> String {
     format!("{name} {}", runs.join(", "))
 }
 
+/// The outputs that are turned between two words: `output 1 on, output 4 off`.
+pub fn turned(old: i64, new: i64) -> String {
+    let parts = [(new & !old, "on"), (old & !new, "off")];
+    let turned = parts.iter().filter(|(word, _)| *word != 0);
+    let texts: Vec<String> = turned
+        .map(|(word, how)| format!("{} {how}", outputs(*word)))
+        .collect();
+    texts.join(", ")
+}
+
 #[cfg(test)]
 mod tests {
     use super::*;
@@ -122,6 +122,12 @@ mod tests {
                 Some(word)
             );
         }
+        assert_eq!(
+            turned(0x1000_0000, 0xC000_0000),
+            "outputs 1-2 on, output 4 off"
+        );
+        assert_eq!(turned(0xC000_0000, 0x8000_0000), "output 2 off");
+        assert_eq!(turned(1, 1), "");
         for wrong in [
             "",
             "0",

@@ -12,46 +12,46 @@ use egrivundo::{Module, Room};
 use crate::given::Given;
 use crate::lines::{quoted, statements, Content, Fault};
 use crate::parameter::read_setting;
+use crate::types::{read_module, ROOM_GIVEN};
 
-/// A selection, the wanted values, and the lines that say them.
+/// A wish, and the lines that say it.
 #[derive(Debug)]
-pub struct Wish {
-    pub selection: Vec<u8>,
-    pub wanted: Vec<i64>,
+pub struct Wish<'a> {
+    pub core: egrivundo::Wish<'a>,
     pub given: Given,
 }
 
-pub fn parse(text: &str, room: &Room) -> Result<Wish, Fault> {
+pub fn parse<'a>(text: &str, room: &'a Room) -> Result<Wish<'a>, Fault> {
     let modules: Vec<Module> = room.modules().collect();
-    let mut wish = Wish {
-        selection: vec![0; modules.len()],
-        wanted: room.values().to_vec(),
-        given: Given::default(),
-    };
-    let mut chosen: Option<Module> = None;
+    let mut core = egrivundo::Wish::from_present(room);
+    let mut given = Given::default();
+    let mut chosen: Option<usize> = None;
     for statement in statements(text)? {
         let line = statement.line;
+        let wrong = |error: egrivundo::WishError| Fault::new(line, error.to_string());
         match statement.content {
             Content::Module(rest) => {
                 let number = choose(&modules, rest, line)?;
-                if wish.selection[number] == 1 {
+                if core.selection()[number] == 1 {
                     return Err(Fault::new(line, format!("chosen twice: {rest}")));
                 }
-                wish.selection[number] = 1;
-                chosen = Some(modules[number]);
+                core = core.choose_at(number).map_err(wrong)?;
+                chosen = Some(number);
             }
             Content::Value(index, value) => {
-                let Some(module) = chosen else {
+                let Some(number) = chosen else {
                     return Err(Fault::new(line, "a value before the first module"));
                 };
+                let module = modules[number];
                 let setting = read_setting(module.kind, index, value, line)?;
                 let place = module.start + setting.row;
-                wish.given.note(place, setting.output, line, index)?;
-                wish.wanted[place] = setting.over(wish.wanted[place]);
+                given.note(place, setting.output, line, index)?;
+                let set = core.set_at(number, setting.index, setting.value);
+                core = set.map_err(wrong)?;
             }
         }
     }
-    Ok(wish)
+    Ok(Wish { core, given })
 }
 
 /// The module that a wish names, by label or by number.
@@ -62,6 +62,9 @@ fn choose(modules: &[Module], text: &str, line: usize) -> Result<usize, Fault> {
             return Err(Fault::new(line, message));
         }
         return Ok(number - 1);
+    }
+    if read_module(text, line).is_ok() {
+        return Err(Fault::new(line, ROOM_GIVEN));
     }
     let label = quoted(text, line)?.as_bytes();
     let bearers: Vec<usize> = (0..modules.len())
@@ -95,9 +98,10 @@ mod tests {
 
     #[test]
     fn a_wish() {
-        let wish = parse("module \"T\"\n3 = 0.5\nmodule 3\n1 = on\n", &room()).unwrap();
-        assert_eq!(wish.selection, [1, 0, 1]);
-        assert_eq!(wish.wanted, [20, 0, 5, 0, 0, 0, 0, 1]);
+        let room = room();
+        let wish = parse("module \"T\"\n3 = 0.5\nmodule 3\n1 = on\n", &room).unwrap();
+        assert_eq!(wish.core.selection(), [1, 0, 1]);
+        assert_eq!(wish.core.wanted(), [20, 0, 5, 0, 0, 0, 0, 1]);
         let lines: Vec<_> = (0..8).map(|place| wish.given.line(place)).collect();
         let none = None;
         assert_eq!(
@@ -110,7 +114,7 @@ mod tests {
     fn outputs_that_are_not_given_stay() {
         let room = room_file::parse("module 7 \"M\" 1x3\n3>1 = A0000000\n").unwrap();
         let wish = parse("module \"M\"\n4>(1,2) = on\n4>(1,3) = off\n", &room).unwrap();
-        assert_eq!(wish.wanted[8], 0xC000_0000);
+        assert_eq!(wish.core.wanted()[8], 0xC000_0000);
         assert_eq!(wish.given.line(8), Some(2));
         let whole = "module \"M\"\n4>(1,2) = on\n3>1 = 80000000\n";
         assert_eq!(parse(whole, &room).unwrap_err().line, 3);
@@ -125,6 +129,7 @@ mod tests {
             ("module 4", 1),
             ("module 0", 1),
             ("module T", 1),
+            ("module 1 \"T\"", 1),
             ("module \"T\"\nmodule 1", 2),
             ("module \"T\"\n1 = on", 2),
             ("module \"T\"\n1 = 1\n1 = 1", 3),

@@ -1,122 +1,240 @@
-//! The program on good and bad files.
+//! The program's answers.
 
-use std::path::{Path, PathBuf};
-use std::process::{Command, Output};
-use std::{env, fs, process};
+mod common;
 
-fn story(arguments: &[&Path]) -> Output {
-    let program = env!("CARGO_BIN_EXE_story");
-    let output = Command::new(program).args(arguments).output();
-    output.expect("the program runs")
-}
+use std::fs;
 
-fn example(name: &str) -> PathBuf {
-    Path::new(env!("CARGO_MANIFEST_DIR"))
-        .join("../../examples")
-        .join(name)
-}
-
-/// A file of its own for each test.
-fn file(name: &str, content: &[u8]) -> PathBuf {
-    let path = env::temp_dir().join(format!("egrivundo-{}-{name}", process::id()));
-    fs::write(&path, content).expect("the file is written");
-    path
-}
-
-fn fails(room: &[u8], wish: &[u8], expected: &str, name: &str) {
-    let room = file(&format!("{name}.room"), room);
-    let wish = file(&format!("{name}.wish"), wish);
-    let output = story(&[&room, &wish]);
-    let message = String::from_utf8(output.stderr).unwrap();
-    assert_eq!(output.status.code(), Some(1), "{message}");
-    assert!(message.contains(expected), "{message}");
-    fs::remove_file(room).unwrap();
-    fs::remove_file(wish).unwrap();
-}
+use common::{example, story, Folder};
 
 #[test]
 fn the_example() {
-    let output = story(&[&example("viewing-room.room"), &example("commentary.wish")]);
-    let text = String::from_utf8(output.stdout).unwrap();
-    assert!(output.status.success());
-    assert!(text.contains("The restore list: 4 lines, 82 bytes"));
-    assert!(text.contains("SA\"Commentary\">5=-0.5\n"));
-    assert!(text.contains("4 moved as wished, 52 stayed"));
-    assert_eq!(text.matches("moved, as wished").count(), 4);
-    assert!(!text.contains("NOT WISHED"));
+    let files = [example("viewing-room.room"), example("commentary.wish")];
+    let (status, text, errors) = story(&[&files[0], &files[1]]);
+    assert_eq!((status, &errors[..]), (Some(0), ""));
+    let expected = "\
+Yes: 4 parameters of Commentary moved, 52 others did not. 82 bytes, 4 lines.
+
+The list, with the replies
+  SA\"Commentary\">1=-4     ACK
+  SA\"Commentary\">3=0.5    ACK
+  SA\"Commentary\">4=F      ACK
+  SA\"Commentary\">5=-0.5   ACK
+  (each line ends with a carriage return, 0D)
+
+What changed (levels in dB)
+  Commentary    Tone Control EQ
+        1      -6.5 \u{2192} -4.0
+        3       2.0 \u{2192} 0.5
+        4        on \u{2192} off
+        5      -1.5 \u{2192} -0.5
+    2 others as before
+  Screen        Tone Control EQ, 6 parameters as before
+  Subwoofer     SmartBass, 1 parameter as before
+  Loudness      Dynamic EQ, 1 parameter as before
+  Viewing room  Standard Room Combiner, 7 parameters as before
+  Desk          Conference Room Router, 33 parameters as before
+  Microphones   Predictive Feedback Suppression, 2 parameters as before
+";
+    assert_eq!(text, expected);
 }
 
 #[test]
 fn a_desk() {
-    let output = story(&[&example("outside-broadcast.room"), &example("desk.wish")]);
-    let text = String::from_utf8(output.stdout).unwrap();
-    assert!(output.status.success());
-    assert!(text.contains("Standard Mixer 8x4"));
-    assert!(text.contains("The restore list: 6 lines, 107 bytes"));
+    let files = [example("outside-broadcast.room"), example("desk.wish")];
+    let (status, text, _) = story(&[&files[0], &files[1]]);
+    assert_eq!(status, Some(0));
+    let first = "Yes: 6 parameters of Desk moved, 102 others did not. 107 bytes, 6 lines.\n";
+    assert!(text.starts_with(first), "{text}");
     // Two words of which one output is turned, and one of which three are.
     for line in ["4>(2,1)=O", "4>(3,3)=F", "3>5=C0000000"] {
-        assert!(text.contains(&format!("SA\"Desk\">{line}\n")), "{line}");
+        assert!(text.contains(&format!("SA\"Desk\">{line} ")), "{line}");
     }
-    assert!(text.contains("3>1 80000001  to outputs 1, 32\n"));
-    assert!(text.contains("moved, as wished, outputs 1-2 on, output 4 off\n"));
-    assert!(text.contains("6 moved as wished, 102 stayed"));
-    assert!(!text.contains("NOT WISHED"));
+    for row in [
+        "      3>2  50000000 \u{2192} D0000000   output 1 on\n",
+        "      3>5  10000000 \u{2192} C0000000   outputs 1-2 on, output 4 off\n",
+        "    26 others as before\n",
+        "  Lines out   Standard Mixer 2x32, 70 parameters as before\n",
+    ] {
+        assert!(text.contains(row), "{row}");
+    }
 }
 
 #[test]
-fn wrong_files() {
-    let room = b"module 1 \"T\"\nmodule 5 \"R\"\nmodule 2 \"S\"\nmodule 2 \"S\"\n";
-    fails(b"\n1 = 1\n", b"", ".room:2:", "value-first");
-    fails(b"module 1 \"T\"\n\xFF\n", b"", ".room:2:", "no-text");
-    fails(room, b"module \"T\"\n1 = 15.1\n", ".wish:2:", "bound");
-    fails(
-        room,
-        b"module \"R\"\n0>1 = 3\n",
-        ".wish:2: 0>1 is read-only",
-        "read-only",
+fn every_row() {
+    let files = [example("viewing-room.room"), example("commentary.wish")];
+    let (status, text, _) = story(&["--all", &files[0], &files[1]]);
+    assert_eq!(status, Some(0));
+    let (_, rows) = text.split_once("Every parameter (levels in dB)\n").unwrap();
+    assert_eq!(rows.lines().count(), 7 + 56);
+    assert_eq!(rows.matches('\u{2192}').count(), 4);
+    assert!(rows.contains("    2>17     -60.5\n"), "{rows}");
+    assert!(!rows.contains("as before"));
+}
+
+#[test]
+fn a_saved_room() {
+    let files = [example("viewing-room.room"), example("commentary.wish")];
+    let (_, by_wish, _) = story(&[&files[0], &files[1]]);
+    let then = example("first-viewing.room");
+    let (status, text, errors) = story(&[&files[0], "--from", &then, "--module", "Commentary"]);
+    assert_eq!((status, &errors[..]), (Some(0), ""));
+    assert_eq!(text, by_wish);
+    let two = ["--module", "Commentary", "--module", "Screen"];
+    let (status, text, _) = story(&[&[&files[0][..], "--from", &then], &two[..]].concat());
+    let first = "Yes: 6 parameters of Commentary and Screen moved, 50 others did not. ";
+    assert!(status == Some(0) && text.starts_with(first), "{text}");
+}
+
+#[test]
+fn wrong_saved_rooms() {
+    let folder = Folder::new("saved");
+    let room = folder.file(
+        "now.room",
+        "module 1 \"T\"\nmodule 2 \"S\"\nmodule 2 \"S\"\n",
     );
-    fails(
-        room,
-        b"module 4\n\n1 = on\n",
-        ".wish:3: more than one",
-        "shared",
+    let then = folder.file(
+        "then.room",
+        "module 2 \"T\"\nmodule 3 \"S\"\nmodule 3 \"U\"\n",
     );
-    fails(room, b"module 4\n\n1 = on\n", "refused with 7", "reach");
-    fails(room, b"module \"S\"\n", "modules 3 and 4", "which");
-    let room = b"module standard-mixer \"M\" 2x3\n";
-    fails(
-        b"module standard-mixer \"M\"\n",
-        b"",
-        ".room:1: a mixer has 1 to 32",
-        "size",
-    );
-    fails(
-        room,
-        b"module \"M\"\n3>1 = 10000000\n",
-        ".wish:2: 3>1 takes eight hex digits with bits of outputs 1-3 alone",
-        "output",
-    );
-    fails(
-        room,
-        b"module \"M\"\n4>(3,1) = on\n",
-        ".wish:2: a Standard Mixer 2x3 has no index 4>(3,1)",
-        "pair",
+    for (label, message) in [
+        (
+            "Q",
+            "no module of the room bears the label \"Q\" (there are \"T\", \"S\", \"S\")",
+        ),
+        ("S", "then.room: 2 modules of the room bear the label \"S\""),
+        (
+            "T",
+            "then.room: \"T\" is a Tone Control EQ in the room and a SmartBass in the saved room",
+        ),
+    ] {
+        let (status, _, errors) = story(&[&room, "--from", &then, "--module", label]);
+        assert_eq!(status, Some(1));
+        assert!(errors.ends_with(&format!("{message}\n")), "{errors}");
+    }
+    let (status, _, errors) = story(&[&then, "--from", &room, "--module", "U"]);
+    let message = "now.room: no module bears the label \"U\" (there are \"T\", \"S\", \"S\")\n";
+    assert!(status == Some(1) && errors.ends_with(message), "{errors}");
+    let (status, _, errors) = story(&[&room, "--from", &example("desk.wish"), "--module", "T"]);
+    assert!(
+        status == Some(1) && errors.contains("this is a wish"),
+        "{errors}"
     );
 }
 
 #[test]
-fn other_arguments() {
-    assert_eq!(story(&[]).status.code(), Some(2));
-    let missing = Path::new("no-such-file.room");
-    assert_eq!(story(&[missing, missing]).status.code(), Some(1));
+fn no() {
+    let folder = Folder::new("no");
+    let room = "module 1 \"T\"\nmodule 5 \"R\"\nmodule 2 \"S\"\nmodule 2 \"S\"\n";
+    let room = folder.file("a.room", room);
+    let list = folder.path("list");
+    for (wish, first, then) in [
+        (
+            "module \"R\"\n1>1 = -3\n0>1 = 3\n",
+            "No: 0>1 of R cannot be reached: it is read-only. Nothing was sent, and nothing moved.",
+            "a.wish:3: 0>1 of R is 0, not 3: it is read-only",
+        ),
+        (
+            "module 4\n1 = on\n",
+            "No: 1 of S cannot be reached: modules 3 and 4 bear the same label, and lines reach \
+             none of them. Nothing was sent, and nothing moved.",
+            "a.wish:2: 1 of S is off, not on: modules 3 and 4 bear the same label",
+        ),
+        (
+            "module \"R\"\n0>2 = 5\nmodule 4\n1 = on\n",
+            "No: 2 parameters cannot be reached. The first is 0>2 of R: it is read-only. Nothing \
+             was sent, and nothing moved.",
+            "a.wish:4: 1 of S is off, not on",
+        ),
+    ] {
+        let wish = folder.file("a.wish", wish);
+        let (status, text, errors) = story(&[&room, &wish, "--list", &list]);
+        assert_eq!((status, &errors[..]), (Some(1), ""));
+        assert_eq!(text.lines().next(), Some(first));
+        assert!(text.contains(then), "{text}");
+        assert!(text.contains("The core refuses with 7"));
+        assert!(fs::metadata(&list).is_err(), "no list is written");
+    }
 }
 
 #[test]
-fn an_empty_wish() {
-    let wish = file("empty.wish", b"# nothing\n");
-    let output = story(&[&example("viewing-room.room"), &wish]);
-    let text = String::from_utf8(output.stdout).unwrap();
-    assert!(output.status.success());
-    assert!(text.contains("0 moved as wished, 56 stayed"));
-    fs::remove_file(wish).unwrap();
+fn one_and_many() {
+    let folder = Folder::new("count");
+    for (room, wish, first) in [
+        (
+            "module 2 \"S\"\nmodule 2 \"B\"\n",
+            "module \"S\"\n1 = on\n",
+            "Yes: 1 parameter of S moved, 1 other did not. 10 bytes, 1 line.",
+        ),
+        (
+            "module 2 \"S\"\n",
+            "module \"S\"\n1 = on\n",
+            "Yes: 1 parameter of S moved, there are no others. 10 bytes, 1 line.",
+        ),
+        (
+            "module 2 \"S\"\n",
+            "module \"S\"\n1 = off\n",
+            "Yes: it is so already, and the 1 parameter did not move. 0 bytes, 0 lines.",
+        ),
+        (
+            "module 1 \"T\"\n",
+            "# nothing\n",
+            "Yes: it is so already, and none of 6 parameters moved. 0 bytes, 0 lines.",
+        ),
+        (
+            "",
+            "",
+            "Yes: the room is empty, and nothing moved. 0 bytes, 0 lines.",
+        ),
+    ] {
+        let (room, wish) = (folder.file("a.room", room), folder.file("a.wish", wish));
+        let (status, text, _) = story(&[&room, &wish]);
+        assert_eq!((status, text.lines().next()), (Some(0), Some(first)));
+        assert_eq!(
+            text.contains("The list"),
+            first.contains(" moved, "),
+            "{text}"
+        );
+    }
+}
+
+#[test]
+fn the_list_as_bytes() {
+    let folder = Folder::new("list");
+    let files = [example("viewing-room.room"), example("commentary.wish")];
+    let list = folder.path("list.bin");
+    let (status, text, _) = story(&[&files[0], &files[1], "--list", &list]);
+    assert_eq!(status, Some(0));
+    assert!(
+        text.ends_with(&format!("\nThe list, 82 bytes: {list}\n")),
+        "{text}"
+    );
+    let expected = "SA\"Commentary\">1=-4\rSA\"Commentary\">3=0.5\rSA\"Commentary\">4=F\r\
+                    SA\"Commentary\">5=-0.5\r";
+    assert_eq!(fs::read(&list).unwrap(), expected.as_bytes());
+    let nowhere = folder.path("no/such/folder");
+    let (status, _, errors) = story(&[&files[0], &files[1], "--list", &nowhere]);
+    assert!(
+        status == Some(1) && errors.starts_with(&nowhere),
+        "{errors}"
+    );
+}
+
+#[test]
+fn help_and_other_options() {
+    let (status, text, errors) = story(&["--help"]);
+    assert_eq!((status, &errors[..]), (Some(0), ""));
+    assert!(text.contains("./run [OPTIONS] [ROOM WISH]"));
+    for (arguments, message) in [
+        (&["a", "b", "--what"][..], "unknown option: --what"),
+        (&["a"], "a room and a wish are needed (1 file given)"),
+    ] {
+        let (status, text, errors) = story(arguments);
+        let expected = format!("{message} (./run --help tells the options)\n");
+        assert_eq!((status, &text[..], errors), (Some(2), "", expected));
+    }
+    let (status, _, errors) = story(&["no-such.room", "no-such.wish"]);
+    assert!(
+        status == Some(1) && errors.starts_with("no-such.room: "),
+        "{errors}"
+    );
 }

@@ -1,0 +1,198 @@
+//! The answer: what the core says to a wish, and what its list does.
+
+use egrivundo::{Beyond, Index, Kind, List, Port, Refusal, Reply, Room, Type, Why};
+
+use crate::value::value_text;
+use crate::wish_file::Wish;
+use crate::words::{counted, listed};
+
+pub enum Answer {
+    Yes(Yes),
+    No(Vec<Hindrance>),
+}
+
+/// A list that was played.
+pub struct Yes {
+    pub list: List,
+    pub replies: Vec<Reply>,
+    pub modules: Vec<Changed>,
+}
+
+/// A module before and after.
+pub struct Changed {
+    pub label: String,
+    pub kind: Type,
+    pub rows: Vec<Row>,
+}
+
+/// A parameter before and after.
+pub struct Row {
+    pub index: Index,
+    pub kind: Kind,
+    pub low: i64,
+    pub high: i64,
+    pub old: i64,
+    pub new: i64,
+}
+
+impl Row {
+    pub fn moved(&self) -> bool {
+        self.old != self.new
+    }
+}
+
+impl Changed {
+    pub fn moved(&self) -> impl Iterator<Item = &Row> {
+        self.rows.iter().filter(|row| row.moved())
+    }
+}
+
+/// A wanted change that cannot be reached.
+pub struct Hindrance {
+    /// The parameter: `0>1 of Desk`.
+    pub what: String,
+    pub why: String,
+    /// The line of the wish file that wants it.
+    pub line: Option<usize>,
+    pub present: String,
+    pub wanted: String,
+}
+
+/// Asks the core for the list and plays it.
+pub fn ask(room: &Room, wish: &Wish) -> Result<Answer, String> {
+    let list = match wish.core.list() {
+        Ok(list) => list,
+        Err(Refusal::Reach) => {
+            let beyond = wish.core.beyond_reach();
+            let hindrances = beyond.iter().map(|beyond| hindrance(room, wish, beyond));
+            return Ok(Answer::No(hindrances.collect()));
+        }
+        Err(refusal) => return Err(refusal.to_string()),
+    };
+    let mut after = room.clone();
+    let mut port = Port::new();
+    let fed = after.feed_all(&mut port, list.bytes());
+    let replies = fed.map_err(|refusal| refusal.to_string())?;
+    if replies.len() != list.lines() || !replies.iter().all(Reply::is_ack) || !port.is_fresh() {
+        return Err("not every line of the list was acknowledged".to_string());
+    }
+    if after.values() != wish.core.wanted() {
+        return Err("the list does not fulfil the wish".to_string());
+    }
+    Ok(Answer::Yes(Yes {
+        list,
+        replies,
+        modules: changes(room, &after),
+    }))
+}
+
+fn changes(before: &Room, after: &Room) -> Vec<Changed> {
+    let modules = before.modules().zip(after.modules());
+    let changed = modules.map(|(module, later)| {
+        let values = module.values.iter().zip(later.values);
+        let rows = module.kind.rows().into_iter().zip(values);
+        Changed {
+            label: String::from_utf8_lossy(module.label).into_owned(),
+            kind: module.kind,
+            rows: rows
+                .map(|(row, (&old, &new))| Row {
+                    index: row.index,
+                    kind: row.kind,
+                    low: row.low,
+                    high: row.high,
+                    old,
+                    new,
+                })
+                .collect(),
+        }
+    });
+    changed.collect()
+}
+
+fn hindrance(room: &Room, wish: &Wish, beyond: &Beyond) -> Hindrance {
+    let modules: Vec<_> = room.modules().collect();
+    let module = modules[beyond.module];
+    let label = String::from_utf8_lossy(module.label);
+    let row = module.kind.rows()[beyond.place - module.start];
+    let why = match beyond.why {
+        Why::ReadOnly => "it is read-only".to_string(),
+        _ => {
+            let bearers = (1..).zip(&modules).filter(|(_, m)| m.label == module.label);
+            let numbers: Vec<String> = bearers.map(|(number, _)| number.to_string()).collect();
+            let numbers = listed(&numbers);
+            format!("modules {numbers} bear the same label, and lines reach none of them")
+        }
+    };
+    Hindrance {
+        what: format!("{} of {label}", beyond.index),
+        why,
+        line: wish.given.line(beyond.place),
+        present: value_text(row.kind, room.values()[beyond.place]),
+        wanted: value_text(row.kind, wish.core.wanted()[beyond.place]),
+    }
+}
+
+impl Answer {
+    /// The answer's first word.
+    pub fn word(&self) -> &'static str {
+        match self {
+            Answer::Yes(_) => "Yes",
+            Answer::No(_) => "No",
+        }
+    }
+
+    /// What follows `Yes: ` or `No: `.
+    pub fn sentence(&self) -> String {
+        match self {
+            Answer::Yes(yes) => yes.moves(),
+            Answer::No(hindrances) => refused(hindrances),
+        }
+    }
+
+    /// What it takes.
+    pub fn measure(&self) -> String {
+        match self {
+            Answer::Yes(yes) => {
+                let bytes = counted(yes.list.bytes().len(), "byte");
+                let lines = counted(yes.list.lines(), "line");
+                format!("{bytes}, {lines}.")
+            }
+            Answer::No(_) => "Nothing was sent, and nothing moved.".to_string(),
+        }
+    }
+}
+
+impl Yes {
+    fn moves(&self) -> String {
+        let rows: usize = self.modules.iter().map(|module| module.rows.len()).sum();
+        let moved: usize = self.modules.iter().map(|m| m.moved().count()).sum();
+        let labels = self.modules.iter().filter(|m| m.moved().next().is_some());
+        let labels: Vec<String> = labels.map(|module| module.label.clone()).collect();
+        match (moved, rows - moved) {
+            (0, 0) => "the room is empty, and nothing moved.".to_string(),
+            (0, 1) => "it is so already, and the 1 parameter did not move.".to_string(),
+            (0, all) => format!("it is so already, and none of {all} parameters moved."),
+            (_, others) => {
+                let moved = counted(moved, "parameter");
+                let others = match others {
+                    0 => "there are no others".to_string(),
+                    _ => format!("{} did not", counted(others, "other")),
+                };
+                format!("{moved} of {} moved, {others}.", listed(&labels))
+            }
+        }
+    }
+}
+
+fn refused(hindrances: &[Hindrance]) -> String {
+    match hindrances {
+        [] => "a wanted change cannot be reached.".to_string(),
+        [only] => format!("{} cannot be reached: {}.", only.what, only.why),
+        [first, ..] => format!(
+            "{} cannot be reached. The first is {}: {}.",
+            counted(hindrances.len(), "parameter"),
+            first.what,
+            first.why
+        ),
+    }
+}
