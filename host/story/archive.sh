@@ -54,7 +54,7 @@ fi
 
 # One line that is drawn anew, each second, on a terminal; else a line for each crate.
 proved=0 last='' failed=''
-draw() { if [[ -t 2 ]]; then printf '\r\033[K%s' "$proved/$count $last, $SECONDS s" >&2; fi; }
+draw() { if [[ -t 2 ]]; then printf '\r\033[K%s' "$proved/$count${last:+ $last}, $SECONDS s" >&2; fi; }
 heard() { # LINE
     echo "$1" >>"$log"
     case $1 in

@@ -3,105 +3,10 @@
 
 mod common;
 
-use std::os::unix::fs::{symlink, PermissionsExt};
-use std::path::Path;
-use std::process::Command;
-use std::time::{Duration, SystemTime};
-use std::{env, fs};
+use std::fs;
 
-use common::{root, told, Folder, Told};
-
-/// Proves what `CHANGED` names, and fails at what `WRONG` names.
-const RT: &str = r#"#!/usr/bin/env bash
-echo "arguments: $*, temporary files: ${TMPDIR:-none}"
-mkdir -p target/stamp target/staticlib
-for name in low middle upper; do
-    if [[ $name == "${WRONG:-}" ]]; then
-        echo "rt: $name NOT PROVED (exit 1, 3 s)"
-        exit 1
-    elif [[ " ${CHANGED:-low middle upper} " == *" $name "* ]]; then
-        echo "fn $name::x: proved"
-        echo "rt: $name proved (2 s)"
-        echo x >target/stamp/$name
-    else
-        echo "rt: $name proved (unchanged since it was last proved)"
-    fi
-done
-echo x >target/staticlib/libcapi.a
-echo 'rt: target/staticlib/libcapi.a has the functions of capi that are marked'
-"#;
-
-const CARGO: &str = "#!/usr/bin/env bash\nprintf '%s\\n' \"$@\"\n";
-
-/// What the script needs beside the compilers.
-const TOOLS: [&str; 14] = [
-    "bash", "cat", "cp", "dirname", "env", "find", "findmnt", "grep", "mkdir", "mv", "rm", "sleep",
-    "stat", "tail",
-];
-
-/// A small repository, with the programs of its folder `bin` alone.
-struct Copy(Folder);
-
-impl Copy {
-    fn new(test: &str, compilers: &[&str]) -> Copy {
-        let folder = Folder::new(test);
-        for name in ["run", "host/story/archive.sh", "host/story/src/help.txt"] {
-            folder.file(name, fs::read(root().join(name)).unwrap());
-        }
-        folder.file(
-            "crates.txt",
-            "# NAME: below\nlow:\nmiddle: low\nupper: middle low\nbeside: low\ncapi: upper io\n",
-        );
-        for name in ["low", "middle", "upper", "beside", "capi"] {
-            folder.file(&format!("crates/{name}/src/lib.rt"), "");
-        }
-        folder.file("bin/rt", RT);
-        folder.file("bin/cargo", CARGO);
-        folder.file("bin/cc", "");
-        for name in ["rt", "cargo", "cc"] {
-            if !compilers.contains(&name) {
-                fs::remove_file(folder.path(&format!("bin/{name}"))).unwrap();
-            }
-        }
-        let path = env::var("PATH").unwrap();
-        for tool in TOOLS {
-            let found = path.split(':').map(|folder| Path::new(folder).join(tool));
-            if let Some(found) = found.into_iter().find(|path| path.is_file()) {
-                symlink(found, folder.path(&format!("bin/{tool}"))).unwrap();
-            }
-        }
-        for name in [
-            "run",
-            "host/story/archive.sh",
-            "bin/rt",
-            "bin/cargo",
-            "bin/cc",
-        ] {
-            let mode = fs::Permissions::from_mode(0o755);
-            let _ = fs::set_permissions(folder.path(name), mode);
-        }
-        Copy(folder)
-    }
-
-    fn run(&self, arguments: &[&str], variables: &[(&str, &str)]) -> Told {
-        let mut command = Command::new(self.0.path("run"));
-        command.args(arguments).env_clear();
-        command.env("PATH", self.0.path("bin"));
-        command.envs(variables.iter().copied());
-        told(command.output().expect("the script runs"))
-    }
-
-    /// Makes a file younger than all that is there.
-    fn touch(&self, name: &str) {
-        let file = fs::File::create(self.0.path(name)).unwrap();
-        let later = SystemTime::now() + Duration::from_secs(5);
-        file.set_modified(later).unwrap();
-    }
-
-    fn log(&self) -> String {
-        fs::read_to_string(self.0.path("target/log/archive")).unwrap()
-    }
-}
+use common::copy::Copy;
+use common::root;
 
 const ALL: [&str; 3] = ["rt", "cargo", "cc"];
 
@@ -143,7 +48,7 @@ fn more_crates_take_longer() {
         crates += &format!("c{number}: upper\n");
     }
     crates += "capi: c0 c1 c2 c3 c4 c5 c6 c7 c8 c9\n";
-    copy.0.file("crates.txt", crates);
+    copy.folder.file("crates.txt", crates);
     let (_, _, errors) = copy.run(&[], &[]);
     let first = "Proving 14 of 14 crates, once; some 3 minutes. ";
     assert!(errors.starts_with(first), "{errors}");
@@ -251,7 +156,7 @@ fn every_option_of_the_help() {
         })
         .collect();
     assert_eq!(options.len(), 6);
-    let then = copy.0.file("then.room", "");
+    let then = copy.folder.file("then.room", "");
     for option in options.into_iter().filter(|option| *option != "--help") {
         let arguments: &[&str] = if option == "--all" {
             &[option]

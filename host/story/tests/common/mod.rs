@@ -1,6 +1,9 @@
 //! What the tests of the program share.
 #![allow(dead_code)]
 
+pub mod chromium;
+pub mod copy;
+
 use std::path::{Path, PathBuf};
 use std::process::{Command, Output};
 use std::{env, fs, process};
