@@ -61,7 +61,8 @@ heard() { # LINE
         'rt: '*' proved (unchanged'*) return ;;
         'rt: '*' proved ('*) last=${1#rt: } last=${last%% *} ;;
         "rt: $archive has "*) last=capi ;;
-        'rt: '*' NOT PROVED'*) failed=${1#rt: } failed=${failed%% *}; return ;;
+        'rt: '*' NOT PROVED: its dependency '*) return ;;
+        'rt: '*' NOT PROVED'*) failed+=" ${1#rt: }" failed=${failed%% NOT PROVED*}; return ;;
         *) return ;;
     esac
     proved=$((proved + 1))
@@ -84,6 +85,6 @@ done < <(rt staticlib capi 2>&1 || echo "rt: status $?")
 if [[ -t 2 ]]; then echo >&2; fi
 
 if [[ $(tail -n 1 "$log") == 'rt: status '* || ! -f $archive ]]; then
-    echo "The core is not proved${failed:+: $failed is refused}. What the checker said is in $log." >&2
+    echo "The core is not proved${failed:+; refused:$failed}. What the checker said is in $log." >&2
     exit 1
 fi

@@ -67,7 +67,7 @@ fn one_file_without_a_script() {
     for (wish, status) in [(&wish, 0), (&no, 1)] {
         let page = page(&folder, &[&room, wish], status);
         for part in [
-            "<script", "<link", "<img", "src=", "href=", "url(", "@import", "://", "<i>&",
+            "<script", "<link", "<img", "src=", "href=", "url(", "@import", "://",
         ] {
             assert!(!page.contains(part), "{part}");
         }
@@ -79,6 +79,15 @@ fn one_file_without_a_script() {
             assert!(page.contains(&format!("@media {media} {{")), "{media}");
         }
     }
+}
+
+/// A label is shown as it is, whatever it would mean in a page.
+#[test]
+fn labels_as_they_are() {
+    let folder = Folder::new("labels");
+    let [room, wish, _] = long_files(&folder);
+    let page = page(&folder, &[&room, &wish], 0);
+    assert!(page.contains("<h3>&lt;i&gt;&amp;amp;</h3>"));
 }
 
 #[test]

@@ -17,7 +17,8 @@ fn the_first_run_and_the_next() {
     assert_eq!(status, Some(0), "{errors}");
     let expected =
         "Proving 4 of 5 crates, once; about a minute. The checker's words go to target/log.\n\
-                    1/4 low\n2/4 middle\n3/4 upper\n4/4 capi\n";
+                    1/4 low\n2/4 middle\n3/4 upper\n4/4 capi\n\
+                    Building the program that plays the question; some seconds.\n";
     assert_eq!(errors, expected);
     // The checker's words are kept, and are not shown.
     assert!(copy.log().contains("fn upper::x: proved\n"));
@@ -83,7 +84,8 @@ fn what_is_refused() {
     let copy = Copy::new("refused", &ALL);
     let (status, text, errors) = copy.run(&[], &[("WRONG", "middle")]);
     assert_eq!((status, &text[..]), (Some(1), ""));
-    let last = "The core is not proved: middle is refused. What the checker said is in target/log/archive.";
+    let last =
+        "The core is not proved; refused: middle. What the checker said is in target/log/archive.";
     assert_eq!(errors.lines().last(), Some(last));
     assert!(copy.log().contains("rt: middle NOT PROVED"));
 }

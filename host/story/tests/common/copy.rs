@@ -16,6 +16,8 @@ mkdir -p target/stamp target/staticlib
 for name in low middle upper; do
     if [[ $name == "${WRONG:-}" ]]; then
         echo "rt: $name NOT PROVED (exit 1, 3 s)"
+        echo "rt: upper NOT PROVED: its dependency $name is not proved"
+        echo "rt: FAILED: $name upper"
         exit 1
     elif [[ " ${CHANGED:-low middle upper} " == *" $name "* ]]; then
         echo "fn $name::x: proved"
@@ -29,7 +31,13 @@ echo x >target/staticlib/libcapi.a
 echo 'rt: target/staticlib/libcapi.a has the functions of capi that are marked'
 "#;
 
-const CARGO: &str = "#!/usr/bin/env bash\nprintf '%s\\n' \"$@\"\n";
+/// Says its arguments, and makes the file that is the program.
+const CARGO: &str = r#"#!/usr/bin/env bash
+printf '%s\n' "$@"
+program=${0%/bin/cargo}/host/target/release/story
+mkdir -p "${program%/*}"
+cp "$0" "$program"
+"#;
 
 /// What the script needs beside the compilers.
 const TOOLS: [&str; 14] = [
