@@ -57,8 +57,14 @@ proved=0 last='' failed=''
 draw() { if [[ -t 2 ]]; then printf '\r\033[K%s' "$proved/$count${last:+ $last}, $SECONDS s" >&2; fi; }
 heard() { # LINE
     echo "$1" >>"$log"
+    local same
     case $1 in
-        'rt: '*' proved (unchanged'*) return ;;
+        'rt: '*' proved (unchanged'*)
+            # Its files are new, and say what they said.
+            same=${1#rt: }
+            if [[ -n ${stale[${same%% *}]:-} ]]; then count=$((count - 1)); fi
+            return
+            ;;
         'rt: '*' proved ('*) last=${1#rt: } last=${last%% *} ;;
         "rt: $archive has "*) last=capi ;;
         'rt: '*' NOT PROVED: its dependency '*) return ;;

@@ -41,6 +41,22 @@ fn the_first_run_and_the_next() {
     assert_eq!(errors, expected);
 }
 
+/// A file that is newer and says the same is not proved again, which only `rt`
+/// can know.
+#[test]
+fn newer_files_that_say_the_same() {
+    let copy = Copy::new("same", &ALL);
+    copy.run(&[], &[]);
+    copy.touch("crates/middle/src/lib.rt");
+    let (_, _, errors) = copy.run(&[], &[("CHANGED", "upper")]);
+    let lines: Vec<&str> = errors.lines().collect();
+    assert!(
+        lines[0].starts_with("Proving 3 of 5 crates, once; "),
+        "{errors}"
+    );
+    assert_eq!(lines[1..], ["1/2 upper", "2/2 capi"]);
+}
+
 #[test]
 fn more_crates_take_longer() {
     let copy = Copy::new("many", &ALL);
