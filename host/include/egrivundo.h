@@ -1,8 +1,9 @@
 /* The C interface of the sound box's control core.
  *
- * Link target/staticlib/libcapi.a, which `rt staticlib capi` makes at the
- * repository's root, into a program for x86-64. It needs memcpy and nothing
- * else.
+ * For x86-64, with the calling convention of Linux (System V). Link with
+ * `pkg-config --cflags --libs egrivundo` after `make install`; in the
+ * repository itself `make` leaves both libraries in target/c. They need
+ * memcpy and nothing else.
  *
  * A lent slice is a pointer and a count, in this order; a count is a number
  * of elements and not of bytes. A block of fixed size is a pointer alone:
@@ -19,12 +20,23 @@
 #ifndef EGRIVUNDO_H
 #define EGRIVUNDO_H
 
+#if !defined(__x86_64__) || defined(__ILP32__) || defined(_WIN32)
+#error "egrivundo is for x86-64 with the calling convention of Linux"
+#endif
+
 #include <stddef.h>
 #include <stdint.h>
 
 #ifdef __cplusplus
 extern "C" {
 #endif
+
+/* The version. Another major or minor number may have other calls, or other
+ * parameters in the same calls; the shared library's soname has both. */
+#define EGRIVUNDO_VERSION "0.3.0"
+#define EGRIVUNDO_VERSION_MAJOR 0
+#define EGRIVUNDO_VERSION_MINOR 3
+#define EGRIVUNDO_VERSION_PATCH 0
 
 /* Limits. */
 #define EGRIVUNDO_RECORD_BYTES 33       /* of a record of kinds 1 to 6: kind,
@@ -34,18 +46,19 @@ extern "C" {
 #define EGRIVUNDO_LABEL_BYTES 32        /* of a label, at most                */
 #define EGRIVUNDO_MODULES 64            /* in a table, at most                */
 #define EGRIVUNDO_TABLE_BYTES 2240      /* of a table, at most                */
+#define EGRIVUNDO_ROWS 160              /* of a module, at most               */
 #define EGRIVUNDO_VALUES 10240          /* of a table, at most                */
 #define EGRIVUNDO_HELD_BYTES 64         /* of an unfinished line, at most     */
 #define EGRIVUNDO_REPLY_BYTES 64        /* that a reply buffer must have      */
+#define EGRIVUNDO_LIST_LINE_BYTES 51    /* of a restore list's line with its
+                                         * 0x0D, at most                      */
 #define EGRIVUNDO_PORT_BYTES 66         /* of a port: held count, overrun,
                                          * bytes                              */
 #define EGRIVUNDO_PORT_TOLD 4           /* numbers told by the port call      */
 #define EGRIVUNDO_RESTORE_TOLD 2        /* numbers told by the restore call   */
 #define EGRIVUNDO_LOG_TOLD 3            /* numbers told by the log call       */
 
-/* Kinds of a record. A mixer of M inputs and N outputs, each a byte from 1 to
- * 32, has level and mute of each input, then of each output, then a routing
- * word for each input. */
+/* Kinds of a record. A mixer has M inputs and N outputs, each 1 to 32. */
 #define EGRIVUNDO_TONE_CONTROL_EQ 1      /*  6 values          */
 #define EGRIVUNDO_SMARTBASS 2            /*  1 value           */
 #define EGRIVUNDO_DYNAMIC_EQ 3           /*  1 value           */
@@ -53,6 +66,78 @@ extern "C" {
 #define EGRIVUNDO_CONFERENCE_ROUTER 5    /* 33 values          */
 #define EGRIVUNDO_FEEDBACK_SUPPRESSION 6 /*  2 values          */
 #define EGRIVUNDO_STANDARD_MIXER 7       /*  3 M + 2 N values  */
+
+/* The order of values: module by module as in the table, and in a module row
+ * by row as here. Rows count from 0. A value is permitted from low to high in
+ * whole steps from low; levels are in tenths of a dB. Lines can set a row
+ * unless it is read-only. "use" is what the protocol's manual calls it; no
+ * call looks at that.
+ *
+ * kind row  indices  what      low    high  step  set        use
+ *   1   0   1        level    -150     150     1  settable   low gain
+ *   1   1   2        switch      0       1     1  settable   low bypass
+ *   1   2   3        level    -150     150     1  settable   mid gain
+ *   1   3   4        switch      0       1     1  settable   mid bypass
+ *   1   4   5        level    -150     150     1  settable   high gain
+ *   1   5   6        switch      0       1     1  settable   high bypass
+ *   2   0   1        switch      0       1     1  settable   bypass
+ *   3   0   1        switch      0       1     1  settable   bypass
+ *   4   0   1>1      number      0       9     1  settable   music source
+ *   4   1   1>2      level    -605     120     5  settable   music gain
+ *   4   2   1>3      switch      0       1     1  settable   music mute
+ *   4   3   1>4      level    -605     120     5  settable   input gain
+ *   4   4   1>5      switch      0       1     1  settable   input mute
+ *   4   5   1>6      level    -605     120     5  settable   output gain
+ *   4   6   1>7      switch      0       1     1  settable   output mute
+ *   5   0   0>1      number      0       8     1  read-only  far-end inputs
+ *   5   1   0>2      number      0      32     1  read-only  mic inputs
+ *   5   2   0>3      number      0      16     1  read-only  overhead outputs
+ *   5   3   0>4      switch      0       1     1  read-only  in a room group
+ *   5   4   0>5      number      0       6     1  read-only  room number
+ *   5   5   0>8      level     -60     -30    10  read-only  mono attenuation
+ *   5   6   1>1      level    -605     120     5  settable   master level
+ *   5   7   1>2      switch      0       1     1  settable   master mute
+ *   5   8   1>3      level    -605     120     5  settable   mic mix level
+ *   5   9   1>4      switch      0       1     1  settable   mic mix mute
+ *   5  10   1>5      level    -605     120     5  settable   other mix level
+ *   5  11   1>6      switch      0       1     1  settable   other mix mute
+ *   5  12   1>7      level    -605     120     5  settable   pre-AEC mix level
+ *   5  13   1>8      switch      0       1     1  settable   pre-AEC mix mute
+ *   5  14   1>9      number      1       6     1  settable   room group
+ *   5  15   2>1      level    -605     120     5  settable   program level
+ *   5  16   2>2      switch      0       1     1  settable   program mute
+ *   5  17   2>3      level    -605     120     5  settable   far end 1 level
+ *   5  18   2>4      switch      0       1     1  settable   far end 1 mute
+ *   5  19   2>5      level    -605     120     5  settable   far end 2 level
+ *   5  20   2>6      switch      0       1     1  settable   far end 2 mute
+ *   5  21   2>7      level    -605     120     5  settable   far end 3 level
+ *   5  22   2>8      switch      0       1     1  settable   far end 3 mute
+ *   5  23   2>9      level    -605     120     5  settable   far end 4 level
+ *   5  24   2>10     switch      0       1     1  settable   far end 4 mute
+ *   5  25   2>11     level    -605     120     5  settable   far end 5 level
+ *   5  26   2>12     switch      0       1     1  settable   far end 5 mute
+ *   5  27   2>13     level    -605     120     5  settable   far end 6 level
+ *   5  28   2>14     switch      0       1     1  settable   far end 6 mute
+ *   5  29   2>15     level    -605     120     5  settable   far end 7 level
+ *   5  30   2>16     switch      0       1     1  settable   far end 7 mute
+ *   5  31   2>17     level    -605     120     5  settable   far end 8 level
+ *   5  32   2>18     switch      0       1     1  settable   far end 8 mute
+ *   6   0   0>2      switch      0       1     1  settable   detection bypass
+ *   6   1   1>1      number      1   43200     1  settable   release seconds
+ *
+ * A mixer, kind 7, has for input i from 1 to M, for output o from 1 to N:
+ *
+ *   row         indices  what      low    high  step  set        use
+ *   2i-2        1>2i-1   level    -605     120     5  settable   input level
+ *   2i-1        1>2i     switch      0       1     1  settable   input mute
+ *   2M+2o-2     2>2o-1   level    -605     120     5  settable   output level
+ *   2M+2o-1     2>2o     switch      0       1     1  settable   output mute
+ *   2M+2N+i-1   3>i      word        0   all N   bit  settable   routing word
+ *
+ * A routing word has a bit for each output: 0x80000000 for output 1, each next
+ * one half of it; "all N" is the sum of the first N, "bit" the last of them.
+ * Lines name one bit by 4>(i,o), which is no row and has no value of its own.
+ */
 
 /* Answers. With 1 to 8 the told numbers become 0 and nothing else changes;
  * where several apply, the first in its call's order is given. */

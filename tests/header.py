@@ -1,0 +1,79 @@
+#!/usr/bin/env python3
+"""Compares the header with the shared library: its calls, its version, and each limit, at which the library accepts and one past which it does not."""
+import ctypes
+import re
+import subprocess
+import sys
+
+import library
+
+text = (library.ROOT / "host/include/egrivundo.h").read_text()
+limit = {name: int(value) for name, value in re.findall(r"^#define EGRIVUNDO_(\w+) (\d+)\b", text, re.M)}
+faults = []
+
+
+def expect(right, words):
+    if not right:
+        faults.append(words)
+
+
+def smartbass(label, count=1):
+    return (bytes([2]) + label.ljust(32, b"\0")) * count
+
+
+def mixers(count, label=b"M"):
+    return (bytes([7]) + label.ljust(32, b"\0") + bytes([32, 32])) * count
+
+
+# The calls: those that the library has are those that the header declares.
+symbols = subprocess.run(["nm", "-D", "--defined-only", str(library.PATH)], capture_output=True, text=True, check=True).stdout
+has = set(re.findall(r" T (\w+)$", symbols, re.M))
+declared = set(re.findall(r"^\w+ (egrivundo_\w+)\(", text, re.M))
+expect(has == declared, f"calls of the library or of the header alone: {', '.join(sorted(has ^ declared))}")
+
+# The version, in the header and in the names of the library.
+version = re.search(r'^#define EGRIVUNDO_VERSION "(.*)"', text, re.M)[1]
+numbers = [limit[f"VERSION_{part}"] for part in ("MAJOR", "MINOR", "PATCH")]
+expect(version == ".".join(map(str, numbers)), "the version's text and numbers differ")
+expect(library.PATH.resolve().name == f"libegrivundo.so.{version}", "the library has another version")
+dynamic = subprocess.run(["readelf", "-d", str(library.PATH)], capture_output=True, text=True, check=True).stdout
+expect(f"[libegrivundo.so.{numbers[0]}.{numbers[1]}]" in dynamic, "the library has another soname")
+
+# Tables and values.
+expect(library.sound(smartbass(b"S", limit["MODULES"])) and not library.sound(smartbass(b"S", limit["MODULES"] + 1)), "modules of a table")
+expect(len(smartbass(b"S")) == limit["RECORD_BYTES"] and len(mixers(1)) == limit["MIXER_RECORD_BYTES"] and library.sound(mixers(1)), "bytes of a record")
+expect(library.sound(smartbass(b"x" * limit["LABEL_BYTES"])) and not library.sound(bytes([2]) + b"x" * (limit["LABEL_BYTES"] + 1)), "bytes of a label")
+longest = mixers(limit["MODULES"])
+expect(len(longest) == limit["TABLE_BYTES"] and library.sound(longest) and not library.sound(longest + mixers(1)), "bytes of a table")
+for table, name in ((longest, "VALUES"), (mixers(1), "ROWS")):
+    for count, answer in ((limit[name] - 1, 2), (limit[name], 0), (limit[name] + 1, 2)):
+        expect(library.feed(table, [0] * count, b"")[0] == answer, f"{name}: {count} values")
+
+# Lines, ports and replies.
+table = smartbass(b"S")
+port, told = (ctypes.c_uint8 * limit["PORT_BYTES"])(), (ctypes.c_uint64 * limit["PORT_TOLD"])()
+
+
+def call(port, given, room):
+    reply = (ctypes.c_uint8 * 64)()
+    return library.library.egrivundo_port(*library.lent(ctypes.c_uint8, table), *library.lent(ctypes.c_int64, [0]), port, *library.lent(ctypes.c_uint8, given), reply, ctypes.c_size_t(room), told)
+
+
+expect(call(port, b"", limit["REPLY_BYTES"]) == 0 and call(port, b"", limit["REPLY_BYTES"] - 1) == 3, "bytes of a reply buffer")
+port[0] = limit["HELD_BYTES"]
+expect(call(port, b"", 64) == 0, "bytes that a port holds")
+port[0] += 1
+expect(call(port, b"", 64) == 4, "one byte more than a port holds")
+for count, cause in ((limit["HELD_BYTES"], 2), (limit["HELD_BYTES"] + 1, 1)):
+    call((ctypes.c_uint8 * 66)(), b"x" * count + b"\r", 64)
+    expect(told[2] == cause, f"a line of {count} bytes")
+
+# The longest line of a restore list: two outputs of the last input's word, under the longest label.
+wanted = [0] * (limit["ROWS"] - 1) + [3]
+told_now = library.restore(mixers(1, b"x" * 32), [0] * limit["ROWS"], [1], wanted, 64)
+expect(told_now[:3] == (0, limit["LIST_LINE_BYTES"], 1), "bytes of a list's line")
+
+for words in faults:
+    print(f"FAILED: {words}")
+print(f"header: {len(declared)} calls, version {version} and the limits are the library's" if not faults else f"header: {len(faults)} faults")
+sys.exit(bool(faults))
