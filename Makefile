@@ -84,6 +84,7 @@ dist: all
 	@echo "$(tarball)"
 
 check: all
+	tests/header.py
 	tests/rows.py
 	tests/room-files.py
 	tests/c-examples.sh
