@@ -1,5 +1,5 @@
 #!/usr/bin/env python3
-"""Compares the header with the shared library: its calls, its version, and each limit, at which the library accepts and one past which it does not."""
+"""Compares the header with the shared library and the proved source: the calls with their parameters, the version, and each limit, at which the library accepts and one past which it does not."""
 import ctypes
 import re
 import subprocess
@@ -30,6 +30,27 @@ symbols = subprocess.run(["nm", "-D", "--defined-only", str(library.PATH)], capt
 has = set(re.findall(r" T (\w+)$", symbols, re.M))
 declared = set(re.findall(r"^\w+ (egrivundo_\w+)\(", text, re.M))
 expect(has == declared, f"calls of the library or of the header alone: {', '.join(sorted(has ^ declared))}")
+
+# Each declaration is that of the proved source: a slice is a pointer and a count, a block of fixed size a pointer.
+TYPES = {"u8": "uint8_t", "u64": "uint64_t", "i64": "int64_t"}
+
+
+def in_c(parameter):
+    """A parameter of the source, as C declares it."""
+    name, kind = re.fullmatch(r"(\w+): (.+)", parameter).groups()
+    slice_of, block = re.fullmatch(r"&(mut )?\[(\w+)\]", kind), re.fullmatch(r"&(mut )?\[(\w+); (\d+)\]", kind)
+    if slice_of:
+        return f"{'' if slice_of[1] else 'const '}{TYPES[slice_of[2]]} *{name}, size_t {name}_count"
+    if block:
+        return f"{'' if block[1] else 'const '}{TYPES[block[2]]} {name}[{block[3]}]"
+    return f"{TYPES[kind]} {name}"
+
+
+source = "".join(file.read_text() for file in sorted((library.ROOT / "crates/capi/src").glob("*.rt")))
+written = re.sub(r"\[EGRIVUNDO_(\w+)\]", lambda name: f"[{limit[name[1]]}]", re.sub(r"\s+", " ", text))
+for name, parameters, answer in re.findall(r'pub extern "C" fn (\w+)\((.*?)\)(?: -> (\w+))?\s+ensures', source, re.S):
+    own = ", ".join(in_c(parameter.strip()) for parameter in parameters.split(",") if parameter.strip())
+    expect(f" {TYPES[answer] if answer else 'void'} {name}({own});" in written, f"{name} is declared with other parameters")
 
 # The version, in the header and in the names of the library.
 version = re.search(r'^#define EGRIVUNDO_VERSION "(.*)"', text, re.M)[1]

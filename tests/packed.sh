@@ -33,6 +33,12 @@ done
 [[ -n $(rt version) ]] && grep -qxF "kit: $(rt version)" "$tree/BUILD-INFO" || fail "BUILD-INFO does not tell the kit"
 if grep -rlF -e "$PWD" -e "$out" "$tree"; then fail "these name a folder of this machine"; fi
 
+# Without the kit there is no package, and one line says why.
+if ! (PATH=/usr/bin:/bin && command -v rt >/dev/null); then
+    ! PATH=/usr/bin:/bin make --no-print-directory BUILD="$out/one" dist >"$out/said" 2>&1 || fail "packed without the kit"
+    grep -qx 'rt is not installed; BUILD-INFO tells the kit by it' "$out/said" || fail "without the kit it says: $(cat "$out/said")"
+fi
+
 # Installed under a folder of its own, and away again.
 make --no-print-directory BUILD="$out/one" install DESTDIR="$out/root" PREFIX=/opt/box LIBDIR=/opt/box/lib64 >/dev/null
 [[ $(cd "$out/root" && find . ! -type d | LC_ALL=C sort | tr '\n' ' ') == "./opt/box/include/egrivundo.h ./opt/box/lib64/libegrivundo.a ./opt/box/lib64/libegrivundo.so ./opt/box/lib64/libegrivundo.so.${version%.*} \
