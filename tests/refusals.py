@@ -9,7 +9,7 @@ law, where it changes specs/. Asked is:
 - each is refused at its promise: what the function ensures, or the invariant of its loop. A refusal at what a callee requires, at a side fact (an index, a sum, the bounds of a
   part) or because the proof file no longer fits the code shows less than the edit says. A program's `main` has no promise: it is refused at what a callee requires;
 - every function that other crates or C can call has two wrong programs of its own;
-- docs/STATEMENTS.md names each wrong program, and no other.
+- docs/WRONG-PROGRAMS.md names each wrong program, and no other.
 
     tests/refusals.py [--where] [ROOT]        --where also tells of each wrong program where it was refused
 """
@@ -101,13 +101,13 @@ for crate in sorted((root / "crates").iterdir()):
         if own[crate.name, function] < 2:
             faults.append(f"{crate.name}: {function} has {own[crate.name, function]} wrong programs of its own")
 
-table = (root / "docs/STATEMENTS.md").read_text().split("## Wrong programs", 1)[1]
+table = (root / "docs/WRONG-PROGRAMS.md").read_text()
 told = set(re.findall(r"`([a-z]\w*)`", re.sub(r"^\| [^|]*\|", "", table, flags=re.M)))
 for crate, name in found:
     if name not in told:
-        faults.append(f"{crate}: {name} is not in docs/STATEMENTS.md")
+        faults.append(f"{crate}: {name} is not in docs/WRONG-PROGRAMS.md")
 for name in told - {name for _, name in found}:
-    faults.append(f"docs/STATEMENTS.md: {name} is no wrong program")
+    faults.append(f"docs/WRONG-PROGRAMS.md: {name} is no wrong program")
 
 for words in faults:
     print(f"FAILED: {words}")
