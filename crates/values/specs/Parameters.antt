@@ -1,4 +1,5 @@
 -- Parameters: the rows of each module in turn, in the order of the table.
+pub mod ByRow
 pub mod Each
 pub mod Elements
 pub mod First
@@ -14,10 +15,12 @@ use mathlib.Core.List.{List, [], _∷_, _++_}
 use Prim.Native.Nat.{ℕ, zero, suc, _+_}
 use Rattle.catalogue.specs.Catalogue.{rowsOf}
 use Rattle.catalogue.specs.Row.{sameIndices}
-use Rattle.room.specs.Table.{modules}
+use Rattle.room.specs.Table.{moduleAt, modules}
 use Rattle.catalogue.specs.declared.row.Indices.{Indices}
 use Rattle.catalogue.specs.declared.row.Row.{Row}
 use Rattle.room.specs.declared.table.Module.{Module}
+use Rattle.room.specs.declared.table.ModuleFound.{ModuleFound}
+use Rattle.room.specs.declared.table.ModuleFound.the-variants as table
 use Rattle.values.specs.declared.parameter.Parameter.{Parameter}
 use Rattle.values.specs.declared.parameter.ParameterFound.{ParameterFound}
 use Rattle.values.specs.declared.parameter.ParameterFound.the-variants.{At, Nothing}
@@ -53,3 +56,12 @@ parameterAt (p ∷ ps) (suc k) = parameterAt ps k
 unfoldable pub withIndices : Indices → List Parameter → ParameterFound
 withIndices i [] = Nothing
 withIndices i (p ∷ ps) = cond (sameIndices (p .row .indices) i) (At p) (withIndices i ps)
+
+-- parameter j of the module that was found, counted from 0
+unfoldable pub rowAt : ModuleFound → (row : ℕ) → ParameterFound
+rowAt (table.At m) j = parameterAt (parametersOf m) j
+rowAt table.Nothing j = Nothing
+
+-- the parameter of the table t by the numbers of its module and of its row, both counted from 0
+unfoldable pub byRow : List ℕ → (owner row : ℕ) → ParameterFound
+byRow t n j = rowAt (moduleAt (modules t) n) j

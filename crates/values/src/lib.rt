@@ -1,4 +1,5 @@
 // The value list of a room: which parameter each value is of, and which lists are right.
+pub mod by_row;
 pub mod control;
 pub mod mixer_values;
 pub mod module_values;
