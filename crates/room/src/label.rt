@@ -51,12 +51,15 @@ pub fn find_bearer(table: &[u8], text: &[u8]) -> Bearer
         number += 1;
         first += row_count(layout);
         place = label + body_length(layout.kind);
-        // From the end on: the labels of a room are more alike at their beginnings.
+        // From the end on: the labels of a room are more alike at their beginnings. The text is not empty.
         let mut i = text.len();
-        while 0 < i {
+        loop {
             i -= 1;
             if table[label + i] != text[i] {
                 continue 'records;
+            }
+            if i == 0 {
+                break;
             }
         }
         let size = text.len();

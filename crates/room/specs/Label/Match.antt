@@ -85,13 +85,12 @@ longer t text label room s n e =
     let k : indexOf 0 f ≡ length text = sym (before-length 0 f) ∙ ap length e in
     n (sym (field-at t label (length text) s) ∙ rw k at (index-found 0 f))
 
-pub matches : (t text : List ℕ) (label i : ℕ) → Compared t text label i → i ≤ 0 → labelRight text ≡ true
+pub matches : (t text : List ℕ) (label : ℕ) → Compared t text label 0 → labelRight text ≡ true
     → (length text < 32 → getD t (label + length text) 0 ≡ 0) → before 0 (take 32 (drop label t)) ≡ text
-matches t text label i h l r z =
+matches t text label h r z =
     let f = take 32 (drop label t) in
     let n = length text in
-    let o : i ≡ 0 = omega arith in
-    let whole : take n f ≡ text = take-take n 32 (drop label t) (h .short) ∙ rw o at (h .bytes) in
+    let whole : take n f ≡ text = take-take n 32 (drop label t) (h .short) ∙ h .bytes in
     let each : every labelByte (take n f) ≡ true = rw whole (label-right text r .each) in
     let none = label-without 0 (λ p. omega arith) (take n f) each in
     let k : indexOf 0 f ≡ n = index-at 0 n f (omega (arith, h .short, field-length t label (h .room))) none (ended (ltb n 32) refl) in

@@ -56,7 +56,7 @@ sought-start t text r s e n =
     let right : labelRight text ≡ true = sym e ∙ not-false r n in
     record { walk = walk-start t s; right = right; short = label-right text right .most; rest = rw (modules-start t) }
 
-pub compared-start : (t text : List ℕ) (found : Bearer) (number place first : ℕ) → Sought t text found number place first → place < length t
+compared-start : (t text : List ℕ) (found : Bearer) (number place first : ℕ) → Sought t text found number place first → place < length t
     → Compared t text (place + 1) (length text)
 compared-start t text found number place first h l =
     let p = take (length text) (drop (place + 1) t) in
@@ -68,6 +68,27 @@ compared-start t text found number place first h l =
       short = h .short;
       bytes = drop-of-length-le p few ∙ sym (drop-of-length-le text all);
     }
+
+-- while bytes are left to compare
+pub record Comparing (t text : List ℕ) (label i : ℕ) : Type 0 where
+  pub compared : Compared t text label i
+  pub left : 0 < i
+
+pub comparing-start : (t text : List ℕ) (found : Bearer) (number place first : ℕ) → Sought t text found number place first → place < length t
+    → Comparing t text (place + 1) (length text)
+comparing-start t text found number place first h l =
+    record { compared = compared-start t text found number place first h l; left = label-right text (h .right) .least }
+
+one-less : (t text : List ℕ) (label i : ℕ) → Comparing t text label i → getD t (label + (i - 1)) 0 ≡ getD text (i - 1) 0 → Compared t text label (i - 1)
+one-less t text label i h e = compared-next t text label i (h .compared) (h .left) e
+
+pub comparing-last : (t text : List ℕ) (label i : ℕ) → Comparing t text label i → getD t (label + (i - 1)) 0 ≡ getD text (i - 1) 0 → i - 1 ≡ 0
+    → Compared t text label 0
+comparing-last t text label i h e z = rw z at (one-less t text label i h e)
+
+pub comparing-next : (t text : List ℕ) (label i : ℕ) → Comparing t text label i → getD t (label + (i - 1)) 0 ≡ getD text (i - 1) 0 → (i - 1 ≡ 0 → ⊥)
+    → Comparing t text label (i - 1)
+comparing-next t text label i h e n = record { compared = one-less t text label i h e; left = omega (arith, n) }
 
 pub sought-end : (t text : List ℕ) (found : Bearer) (number place first : ℕ) → Sought t text found number place first → length t ≤ place
     → found ≡ bearer t text
@@ -101,42 +122,42 @@ module _ (t text : List ℕ) (found : Bearer) (number place first size rows : �
         rest = h .rest ∙ rw (modules-next t number place first (h .walk) l size rows s n, bears-not t text here _ d);
       }
 
-  pub sought-differs : (i : ℕ) → Compared t text (place + 1) i → 0 < i → (getD t (place + 1 + (i - 1)) 0 ≡ getD text (i - 1) 0 → ⊥)
+  pub sought-differs : (i : ℕ) → Comparing t text (place + 1) i → (getD t (place + 1 + (i - 1)) 0 ≡ getD text (i - 1) 0 → ⊥)
       → Sought t text found (number + 1) (place + 1 + size) (first + rows)
-  sought-differs i c b d = sought-pass (differs t text (place + 1) (i - 1) (h .short) (omega (arith, c .within)) d)
+  sought-differs i c d = sought-pass (differs t text (place + 1) (i - 1) (h .short) (omega (arith, c .left, c .compared .within)) d)
 
-  pub sought-longer : (i k : ℕ) → Compared t text (place + 1) i → length text < k → k ≤ 32 → not (eqb (getD t (place + 1 + length text) 0) 0) ≡ true
+  pub sought-longer : (k : ℕ) → Compared t text (place + 1) 0 → length text < k → k ≤ 32 → not (eqb (getD t (place + 1 + length text) 0) 0) ≡ true
       → Sought t text found (number + 1) (place + 1 + size) (first + rows)
-  sought-longer i k c s m d =
+  sought-longer k c s m d =
       sought-pass (longer t text (place + 1) (c .room) (omega arith) (eqb-false (getD t (place + 1 + length text) 0) 0 (not-true _ d)))
 
-  matched : (i : ℕ) → Compared t text (place + 1) i → i ≤ 0 → Ended t (place + 1) (length text)
+  matched : Compared t text (place + 1) 0 → Ended t (place + 1) (length text)
       → bearer t text ≡ counting found (here ∷ bearersIn t text (modulesAt t (number + 1) (place + 1 + size) (first + rows)))
   unfolding label
-  matched i c b z =
-      let e : label t here ≡ text = matches t text (place + 1) i c b (h .right) (z .zero-byte) in
+  matched c z =
+      let e : label t here ≡ text = matches t text (place + 1) c (h .right) (z .zero-byte) in
       h .rest ∙ rw (modules-next t number place first (h .walk) l size rows s n, bears t text here _ e)
 
-  pub sought-first : (i : ℕ) (m : Layout) → m ≡ layoutAt t place → Compared t text (place + 1) i → i ≤ 0 → Ended t (place + 1) (length text) → found ≡ NotOne
+  pub sought-first : (m : Layout) → m ≡ layoutAt t place → Compared t text (place + 1) 0 → Ended t (place + 1) (length text) → found ≡ NotOne
       → Sought t text (Only (record { number = number; place = place; layout = m; first = first }))
       (number + 1) (place + 1 + size) (first + rows)
   unfolding counting
-  sought-first i m q c b z f =
+  sought-first m q c z f =
       record {
         walk = walk-next t number place first (h .walk) l size rows s n;
         right = h .right;
         short = h .short;
-        rest = rw q (rw f at (matched i c b z));
+        rest = rw q (rw f at (matched c z));
       }
 
-  second : (i : ℕ) (m : Module) → Compared t text (place + 1) i → i ≤ 0 → Ended t (place + 1) (length text) → found ≡ Only m → NotOne ≡ bearer t text
+  second : (m : Module) → Compared t text (place + 1) 0 → Ended t (place + 1) (length text) → found ≡ Only m → NotOne ≡ bearer t text
   unfolding counting exactlyOne
-  second i m c b z f = sym (rw f at (matched i c b z))
+  second m c z f = sym (rw f at (matched c z))
 
-pub sought-second : (t text : List ℕ) (found : Bearer) (number place first i : ℕ) (m : Module) → Sought t text found number place first → place < length t
-    → Compared t text (place + 1) i → i ≤ 0 → Ended t (place + 1) (length text) → found ≡ Only m → NotOne ≡ bearer t text
-sought-second t text found number place first i m h l =
-    second t text found number place first (bodyLength (getD t place 0)) (length (rowsOf (layoutAt t place))) h l refl refl i m
+pub sought-second : (t text : List ℕ) (found : Bearer) (number place first : ℕ) (m : Module) → Sought t text found number place first → place < length t
+    → Compared t text (place + 1) 0 → Ended t (place + 1) (length text) → found ≡ Only m → NotOne ≡ bearer t text
+sought-second t text found number place first m h l =
+    second t text found number place first (bodyLength (getD t place 0)) (length (rowsOf (layoutAt t place))) h l refl refl m
 
 -- ---- a text that is no label
 
@@ -170,6 +191,6 @@ pub sought-none : (t text : List ℕ) (r : Bool) → sound t ≡ true → r ≡ 
 unfolding bearer exactlyOne
 sought-none t text r s e n = rw (modules-start t, no-bearer t text (sym e ∙ not-true r n) 0 0 0 (walk-start t s))
 
-pub ruleset comparing = (compared-start, compared-next, ended-full, ended-zero)
+pub ruleset comparing = (comparing-start, comparing-last, comparing-next, ended-full, ended-zero)
 
 pub ruleset seeking = (comparing, sought-none, sought-start, sought-end, sought-differs, sought-longer, sought-first, sought-second)

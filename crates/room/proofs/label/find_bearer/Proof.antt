@@ -3,14 +3,13 @@ use mathlib.Core.Logic.{⊎-elim}
 use Prim.Native.Nat.{_-_}
 use borrow.Author.Needs.{needs}
 use lib.ListN.{length}
-use Rattle.room.specs.Label.Match.{Compared}
-use Rattle.room.specs.Label.Sought.{Sought, seeking}
+use Rattle.room.specs.Label.Sought.{Comparing, Sought, seeking}
 use Rattle.room.specs.Table.Walk.{walking}
 use Rattle.room.proofs.label.find_bearer.Statement.{statement}
 use Rattle.room.proofs.label.find_bearer.Tie as tie
 
 abbrev Inv-loop : tie.InvT-loop
-Inv-loop table text found number place first own here before label layout i₀ i = Compared table text label i
+Inv-loop table text found number place first own here before label layout i₀ i = Comparing table text label i
 
 abbrev μ-loop : tie.MeasureT-loop
 μ-loop table text found number place first own here before label layout i₀ i = i
@@ -55,6 +54,6 @@ find-bearer-spec =
     (λ c. search (seeking, walking, needs))  -- enum-told
     (λ c. search (seeking, walking, needs))  -- enum-told-2
     (λ c. search (seeking, walking, needs))  -- records-less-3
-    (λ c. ⊎-elim (λ w. search (seeking, walking, needs)) (λ w. search (seeking, walking, needs)) (c .before .before .if4 .came))  -- records-again-3
+    (λ c. ⊎-elim (λ w. search (seeking, walking, needs)) (λ w. search (seeking, walking, needs)) (c .before .before .if5 .came))  -- records-again-3
     (λ c. search (seeking, walking, needs))  -- returns-2
-    (λ c. ⊎-elim (λ w. search (seeking, walking, needs)) (λ w. search (seeking, walking, needs)) (c .before .before .if4 .came)))  -- returns-3
+    (λ c. ⊎-elim (λ w. search (seeking, walking, needs)) (λ w. search (seeking, walking, needs)) (c .before .before .if5 .came)))  -- returns-3
