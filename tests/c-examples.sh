@@ -28,6 +28,12 @@ examples/room.py unpack "$out/table" "$out/now" >"$out/room"
 sed 's/^    1 = -6.5$/    1 = -4/' < <(examples/room.py unpack "$out/table" "$out/values") >"$out/wanted"
 compare "serve, of its values," "$out/room" "$out/wanted"
 
+# Without a file of values: the start values, which are written.
+printf 'GA"Commentary">1\rGA"Microphones">1>1\r' | "$out/serve" "$out/table" "$out/started" >"$out/replies"
+printf 'GA"Commentary">1=0\rGA"Microphones">1>1=1\r' >"$out/wanted"
+compare "serve, of the start values," "$out/replies" "$out/wanted"
+[[ $(stat -c %s "$out/started") == $(stat -c %s "$out/values") ]] || { echo "FAILED: serve starts with another number of values"; exit 1; }
+
 # The restore list back to the values before, played by the port; then a module that did not change, and one that is not there.
 "$out/restore" "$out/table" "$out/now" "$out/values" 1 >"$out/list" 2>"$out/reports"
 printf 'SA"Commentary">1=-6.5\r' >"$out/wanted"
@@ -56,6 +62,6 @@ status 2 "$out/restore"
 status 1 "$out/serve" "$out/nothing" "$out/values"
 status 2 "$out/serve"
 printf 'x' | "$out/serve" "$out/table" "$out/short" >"$out/list" 2>"$out/reports" && { echo "FAILED: serve takes a short list of values"; exit 1; }
-echo 'refused with 2' >"$out/wanted"
+echo 'refused with 2: values: wrong length, or one that is not permitted' >"$out/wanted"
 compare "serve, of a short list of values," "$out/reports" "$out/wanted"
 echo "c-examples: serve and restore write what they must"

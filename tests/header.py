@@ -94,6 +94,13 @@ wanted = [0] * (limit["ROWS"] - 1) + [3]
 told_now = library.restore(mixers(1, b"x" * 32), [0] * limit["ROWS"], [1], wanted, 64)
 expect(told_now[:3] == (0, limit["LIST_LINE_BYTES"], 1), "bytes of a list's line")
 
+# The words of each answer: ASCII with a zero byte behind, and all different; any other number has one text.
+answers = re.findall(r"^#define EGRIVUNDO_(?:OK|REFUSED_\w+) (\d+)", text, re.M)
+expect([int(number) for number in answers] == list(range(len(answers))), "the answers' numbers")
+told_words = [library.words(number) for number in range(256)]
+expect(all(len(block) == limit["REFUSAL_BYTES"] and re.fullmatch(rb"[ -~]+\0+", block) for block in told_words), "the words of an answer are no text")
+expect(len(set(told_words)) == len(answers) + 1 == len(set(told_words[:len(answers) + 1])), "words of several answers are the same, or an answer has none")
+
 for words in faults:
     print(f"FAILED: {words}")
 print(f"header: {len(declared)} calls, version {version} and the limits are the library's" if not faults else f"header: {len(faults)} faults")

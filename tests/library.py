@@ -13,7 +13,8 @@ PATH = pathlib.Path(os.environ.get("EGRIVUNDO_SHARED", ROOT / "target/c/libegriv
 if not PATH.exists():
     sys.exit(f"{PATH} is missing: run `make`")
 library = ctypes.CDLL(str(PATH))
-library.egrivundo_table.restype = library.egrivundo_port.restype = library.egrivundo_restore.restype = ctypes.c_uint8
+for call in ("table", "port", "restore", "value_count", "starts", "place", "row"):
+    getattr(library, f"egrivundo_{call}").restype = ctypes.c_uint8
 
 
 def lent(kind, content):
@@ -39,3 +40,34 @@ def restore(table, present, selection, wanted, size):
     answer = library.egrivundo_restore(*lent(ctypes.c_uint8, table), *lent(ctypes.c_int64, present), *lent(ctypes.c_uint8, selection), *lent(ctypes.c_int64, wanted),
                                        space, ctypes.c_size_t(size), told)
     return answer, told[0], told[1], bytes(space)[:told[0]]
+
+
+def value_count(table):
+    """The answer, and the number told."""
+    told = (ctypes.c_uint64 * 1)(9)
+    return library.egrivundo_value_count(*lent(ctypes.c_uint8, table), told), told[0]
+
+
+def starts(table, count):
+    """The start values put into a list of so many entries, each 77 before: the answer, and the list."""
+    values, size = lent(ctypes.c_int64, [77] * count)
+    return library.egrivundo_starts(*lent(ctypes.c_uint8, table), values, size), list(values)[:count]
+
+
+def place(table, owner, row):
+    """The answer, and the place told."""
+    told = (ctypes.c_uint64 * 1)(9)
+    return library.egrivundo_place(*lent(ctypes.c_uint8, table), ctypes.c_uint64(owner), ctypes.c_uint64(row), told), told[0]
+
+
+def row(table, owner, row):
+    """The answer, and the seven numbers told."""
+    told = (ctypes.c_int64 * 7)(*[9] * 7)
+    return library.egrivundo_row(*lent(ctypes.c_uint8, table), ctypes.c_uint64(owner), ctypes.c_uint64(row), told), list(told)
+
+
+def words(number):
+    """The words of an answer's number: the whole block."""
+    text = (ctypes.c_uint8 * 64)(*[9] * 64)
+    library.egrivundo_refusal(ctypes.c_uint8(number), text)
+    return bytes(text)

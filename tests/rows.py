@@ -123,6 +123,34 @@ def of_library(kind, inputs, outputs, rows):
     return [f"the library, kind {kind} {inputs}x{outputs}: {words}" for words in faults]
 
 
+def told(row):
+    """A row in seven numbers, as the library tells it."""
+    indices, what, low, high, step, settable = row
+    first, _, second = indices.partition(">")
+    return [int(first), int(second or -1), ["level", "switch", "number", "word"].index(what), low, high, step, int(settable)]
+
+
+def of_calls(kind, inputs, outputs, rows):
+    """What the calls on rows tell otherwise, over a table with two such modules; and what they answer to a module or row that is not there."""
+    record = bytes([kind]) + b"L".ljust(32, b"\0") + (bytes([inputs, outputs]) if kind == 7 else b"")
+    table, count = record * 2, len(rows)
+    starts = [0 if room.permits(row[1:5], 0) else row[2] for row in rows]
+    right = library.value_count(table) == (0, 2 * count) and library.starts(table, 2 * count) == (0, starts * 2)
+    right &= all(library.starts(table, size) == (2, [77] * size) for size in (0, count, 2 * count - 1, 2 * count + 1))
+    for owner in range(2):
+        for place, row in enumerate(rows):
+            right &= library.place(table, owner, place) == (0, owner * count + place) and library.row(table, owner, place) == (0, told(row))
+    for owner, row in ((0, count), (1, count), (2, 0), (0, 2**64 - 1), (2**64 - 1, 0), (2**32, 0), (0, 2**32), (2**64 - count, count)):
+        right &= library.place(table, owner, row) == (9, 0) and library.row(table, owner, row) == (9, [0] * 7)
+    return [] if right else [f"the calls on rows tell otherwise: kind {kind} {inputs}x{outputs}"]
+
+
+def unsound():
+    """What the calls on rows answer to a table that is not sound."""
+    answers = library.value_count(b"\1"), library.starts(b"\1", 1), library.place(b"\1", 0, 0), library.row(b"\1", 0, 0)
+    return [] if answers == ((1, 0), (1, [77]), (1, 0), (1, [0] * 7)) else ["an unsound table is answered otherwise"]
+
+
 def planted(text, read, right):
     """Changes each number and word of each row, one at a time, and tells the changes that are not found."""
     missed, changes = [], 0
@@ -154,7 +182,8 @@ for path, read in ((HEADER, of_header), (RULES, of_rules)):
 for layout in ALL:
     if [(indices, *row) for indices, row in room.rows_of(*layout)] != [row[:5] for row in right[layout]]:
         faults.append(f"room.py: the rows of kind {layout} differ")
-    faults += of_library(*layout, right[layout])
+    faults += of_library(*layout, right[layout]) + of_calls(*layout, right[layout])
+faults += unsound()
 
 for words in faults:
     print(f"FAILED: {words}")

@@ -42,6 +42,14 @@ static size_t modules(size_t table_count)
     return count;
 }
 
+/* Says why a call was refused. */
+static void refused(uint8_t answer)
+{
+    uint8_t text[EGRIVUNDO_REFUSAL_BYTES];
+    egrivundo_refusal(answer, text);
+    fprintf(stderr, "refused with %d: %s\n", answer, (const char *)text);
+}
+
 int main(int count, char **words)
 {
     uint8_t selection[EGRIVUNDO_MODULES] = {0};
@@ -67,7 +75,7 @@ int main(int count, char **words)
                                modules(table_count), wanted, wanted_count, list, sizeof list,
                                told);
     if (answer != EGRIVUNDO_OK) {
-        fprintf(stderr, "refused with %d\n", answer);
+        refused(answer);
         return 1;
     }
     fprintf(stderr, "%u bytes, lines: %u\n", (unsigned)told[0], (unsigned)told[1]);

@@ -2,7 +2,8 @@
  *
  *   serve TABLE VALUES
  *
- * Both files are as room.py writes them; VALUES is written anew at the end.
+ * Both files are as room.py writes them. Where there is no file VALUES, the
+ * room begins with the start values; it is written anew at the end.
  * A line that is answered with 99 is reported on standard error. */
 
 #define _POSIX_C_SOURCE 200809L
@@ -31,11 +32,28 @@ static size_t load(const char *path, void *buffer, size_t size, size_t most)
     return count;
 }
 
+/* Puts the start values, and tells how many they are. */
+static size_t start(size_t table_count)
+{
+    uint64_t told[1];
+    egrivundo_value_count(table, table_count, told);
+    egrivundo_starts(table, table_count, values, told[0]);
+    return told[0];
+}
+
 static void report(uint64_t cause, uint64_t place)
 {
     static const char *const causes[] = {"", "over 64 bytes", "no SA or GA", "no opening quote",
                                          "no closing quote", "no ="};
     fprintf(stderr, "99: %s, at byte %u\n", causes[cause], (unsigned)place);
+}
+
+/* Says why a call was refused. */
+static void refused(uint8_t answer)
+{
+    uint8_t text[EGRIVUNDO_REFUSAL_BYTES];
+    egrivundo_refusal(answer, text);
+    fprintf(stderr, "refused with %d: %s\n", answer, (const char *)text);
 }
 
 int main(int count, char **words)
@@ -53,7 +71,9 @@ int main(int count, char **words)
         return 2;
     }
     table_count = load(words[1], table, 1, sizeof table);
-    values_count = load(words[2], values, sizeof values[0], EGRIVUNDO_VALUES + 1);
+    values_count = access(words[2], F_OK) == 0
+                       ? load(words[2], values, sizeof values[0], EGRIVUNDO_VALUES + 1)
+                       : start(table_count);
     while ((got = read(STDIN_FILENO, given, sizeof given)) > 0) {
         /* A call takes one line at most: go on until all is consumed. */
         for (done = 0; done < (size_t)got; done += told[0]) {
@@ -61,7 +81,7 @@ int main(int count, char **words)
                                             given + done, (size_t)got - done, reply,
                                             sizeof reply, told);
             if (answer != EGRIVUNDO_OK) {
-                fprintf(stderr, "refused with %d\n", answer);
+                refused(answer);
                 return 1;
             }
             if (told[2] != EGRIVUNDO_FAULT_NONE) {

@@ -33,10 +33,10 @@ extern "C" {
 
 /* The version. Another major or minor number may have other calls, or other
  * parameters in the same calls; the shared library's soname has both. */
-#define EGRIVUNDO_VERSION "0.3.0"
+#define EGRIVUNDO_VERSION "0.3.1"
 #define EGRIVUNDO_VERSION_MAJOR 0
 #define EGRIVUNDO_VERSION_MINOR 3
-#define EGRIVUNDO_VERSION_PATCH 0
+#define EGRIVUNDO_VERSION_PATCH 1
 
 /* Limits. */
 #define EGRIVUNDO_RECORD_BYTES 33       /* of a record of kinds 1 to 6: kind,
@@ -57,6 +57,8 @@ extern "C" {
 #define EGRIVUNDO_PORT_TOLD 4           /* numbers told by the port call      */
 #define EGRIVUNDO_RESTORE_TOLD 2        /* numbers told by the restore call   */
 #define EGRIVUNDO_LOG_TOLD 3            /* numbers told by the log call       */
+#define EGRIVUNDO_ROW_TOLD 7            /* numbers told of a row              */
+#define EGRIVUNDO_REFUSAL_BYTES 64      /* of an answer's words               */
 
 /* Kinds of a record. A mixer has M inputs and N outputs, each 1 to 32. */
 #define EGRIVUNDO_TONE_CONTROL_EQ 1      /*  6 values          */
@@ -139,7 +141,7 @@ extern "C" {
  * Lines name one bit by 4>(i,o), which is no row and has no value of its own.
  */
 
-/* Answers. With 1 to 8 the told numbers become 0 and nothing else changes;
+/* Answers. With 1 to 9 the told numbers become 0 and nothing else changes;
  * where several apply, the first in its call's order is given. */
 #define EGRIVUNDO_OK 0                /* accepted                             */
 #define EGRIVUNDO_REFUSED_TABLE 1     /* the table is not sound               */
@@ -154,6 +156,7 @@ extern "C" {
 #define EGRIVUNDO_REFUSED_REACH 7     /* a wanted change is on a read-only row
                                        * or on a label of several modules     */
 #define EGRIVUNDO_REFUSED_LIST 8      /* the list does not fit its buffer     */
+#define EGRIVUNDO_REFUSED_ROW 9       /* there is no such module or row       */
 
 /* Why a line was answered with 99; the first that applies is told. The place
  * is the byte of the line where it shows, counted from 0, also where the line
@@ -225,6 +228,45 @@ uint8_t egrivundo_restore(const uint8_t *table, size_t table_count,
                           const int64_t *wanted, size_t wanted_count,
                           uint8_t *list, size_t list_count,
                           uint64_t told[EGRIVUNDO_RESTORE_TOLD]);
+
+/* How many values a table has: the length of a value list.
+ *   table  a sound table
+ *   told   that number
+ * Answers 0 or 1. */
+uint8_t egrivundo_value_count(const uint8_t *table, size_t table_count,
+                              uint64_t told[1]);
+
+/* Fills a list with the values that a program starts with: 0 where the row
+ * permits it, else the row's low.
+ *   table   a sound table
+ *   values  one for each parameter
+ * Answers 0, 1, or 2 where the list has another length. */
+uint8_t egrivundo_starts(const uint8_t *table, size_t table_count,
+                         int64_t *values, size_t values_count);
+
+/* Where the value of a row stands in the list.
+ *   table  a sound table
+ *   owner  the number of its module, from 0
+ *   row    its number in the module, from 0
+ *   told   its place, from 0
+ * Answers 0, 1 or 9. */
+uint8_t egrivundo_place(const uint8_t *table, size_t table_count,
+                        uint64_t owner, uint64_t row, uint64_t told[1]);
+
+/* What a row is.
+ *   table, owner, row  as above
+ *   told   [0] its first index, [1] its second or -1, [2] 0 level, 1 switch,
+ *          2 number, 3 word, [3] low, [4] high, [5] step, [6] 1 where a line
+ *          may set it, else 0
+ * Answers 0, 1 or 9. */
+uint8_t egrivundo_row(const uint8_t *table, size_t table_count,
+                      uint64_t owner, uint64_t row,
+                      int64_t told[EGRIVUNDO_ROW_TOLD]);
+
+/* The words of an answer's number, for a log or a screen.
+ *   number  an answer; of any other number the words say so
+ *   text    the words in ASCII, and zero bytes behind them: a string in C */
+void egrivundo_refusal(uint8_t number, uint8_t text[EGRIVUNDO_REFUSAL_BYTES]);
 
 #ifdef __cplusplus
 }

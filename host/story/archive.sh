@@ -39,8 +39,8 @@ done
 stale[capi]=1
 count=${#stale[@]}
 
-# Some twelve seconds for each on two processors.
-minutes=$(((count * 12 + 59) / 60))
+# Some fifteen seconds for each on two processors.
+minutes=$(((count * 15 + 59) / 60))
 case $minutes in
     1) time='about a minute' ;;
     *) time="some $minutes minutes" ;;

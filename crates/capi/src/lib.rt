@@ -1,6 +1,10 @@
 // The library's calls for C: each is thin over the proved library, and none asks anything of its caller.
 pub mod fault;
+pub mod place;
 pub mod port_bytes;
+pub mod refusal;
+pub mod row;
+pub mod value_list;
 
 use crate::fault::fault_numbers;
 use crate::port_bytes::port_of;

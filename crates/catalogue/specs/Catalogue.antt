@@ -12,6 +12,7 @@ pub mod Rules
 pub mod Run
 pub mod Sized
 pub mod Starts
+pub mod Steps
 use mathlib.Core.Bool.{Bool, true, false, cond, not, _&&_, _||_}
 use mathlib.Core.List.{List, [], _∷_, map}
 use Prim.Native.Nat.{ℕ, suc}

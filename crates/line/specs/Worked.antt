@@ -3,11 +3,10 @@ use mathlib.Core.Path.{_≡_, refl}
 use mathlib.Core.Bool.{Bool, true, false, _&&_}
 use mathlib.Core.List.{List, [], _∷_, _++_}
 use Prim.Native.Nat.{ℕ}
-use Prim.Native.Char.{code}
-use Prim.Native.String as string
 use Prim.Native.String.{String}
 use lib.IntN.{ℤ, pos, negℤ}
 use lib.ListN.{replicate, set}
+use Rattle.text.specs.Byte.{bytes}
 use Rattle.text.specs.Cut.{indexOf, has, before, after, firstFrom, part}
 use Rattle.text.specs.Digits.{isDigit, allDigits, readOn, numberOf, digitsWithin, digits}
 use Rattle.text.specs.Level.{signed, levelTenth, levelPoint, levelMore, levelWhole, readLevel, signText, tenthText, shortTenthText, wholeText, levelText}
@@ -58,11 +57,6 @@ tableA = oneByteRecord 1 0x54 ++ oneByteRecord 2 0x53
 
 unfoldable pub zeros : List ℤ
 zeros = replicate 7 (pos 0)
-
--- the bytes of a text
-unfoldable pub bytes : String → List ℕ
-bytes string.[] = []
-bytes (string._∷_ c s) = code c ∷ bytes s
 
 -- on the table A with the values all 0: a set line that is acknowledged and puts x into the value k, and a line that is refused with a code; a malformed line, with the number of its cause and its place
 unfoldable pub puts : String → ℕ → ℤ → Case
@@ -126,7 +120,7 @@ unfoldable pub answered : Case → Bool
 answered c = sameAnswer (answer (roomOf (c .table)) (c .before) (c .line)) c
 
 pub worked : every answered cases ≡ true
-unfolding answered cases bytes puts told refused malformed faultNumbers causeNumber tableA sourceReply oneByteRecord zeros sameAnswer sameValues equal
+unfolding answered cases puts told refused malformed faultNumbers causeNumber tableA sourceReply oneByteRecord zeros sameAnswer sameValues equal
     indexOf has before after isDigit allDigits every readOn numberOf digitsWithin digits
     signed levelTenth levelPoint levelMore levelWhole readLevel signText tenthText shortTenthText wholeText levelText numberForm readNumber switchLetter readSwitch switchText
     minus level switch number catalogue rowsIn rowsOf permitted bodyLength layoutOf recordLimit modulesFrom modules

@@ -6,6 +6,7 @@ use Prim.Native.Nat.{ℕ, _-_}
 use Prim.Native.String.{String}
 use lib.IntN.{ℤ, pos, negℤ}
 use lib.ListN.{length, replicate, set}
+use Rattle.text.specs.Byte.{bytes}
 use Rattle.text.specs.Cut.{indexOf, has, before, after, firstFrom, part}
 use Rattle.text.specs.Digits.{isDigit, allDigits, readOn, numberOf, digitsWithin, digits}
 use Rattle.text.specs.Every.{every}
@@ -40,7 +41,7 @@ use Rattle.spelling.specs.Text.{partText, textOf}
 use Rattle.line.specs.Answer.{act, answer}
 use Rattle.line.specs.Fault.{faultNumbers}
 use Rattle.line.specs.Meaning.{indexed, inModule, inRoom, putOf, getOf, setOf, bearerOf, ofShape, meaning}
-use Rattle.line.specs.Worked.{Case, answered, bytes, sameAnswer, sameValues, told}
+use Rattle.line.specs.Worked.{Case, answered, sameAnswer, sameValues, told}
 
 -- a mixer's record: its label and zero bytes, its inputs and its outputs
 unfoldable pub mixer : String → (inputs outputs : ℕ) → List ℕ
@@ -99,7 +100,7 @@ cases =
     []
 
 pub worked : every answered cases ≡ true
-unfolding answered cases bytes puts refused routed routes tells told mixer mixers silent faultNumbers causeNumber sameAnswer sameValues equal
+unfolding answered cases puts refused routed routes tells told mixer mixers silent faultNumbers causeNumber sameAnswer sameValues equal
     indexOf has before after isDigit allDigits every readOn numberOf digitsWithin digits isHexDigit hexValue hexDigit hexDigits hexOn
     signed levelTenth levelPoint levelMore levelWhole readLevel numberForm readNumber switchLetter readSwitch switchText
     bitAt putAt bit withBit hexText readHex

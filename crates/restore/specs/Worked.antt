@@ -7,6 +7,7 @@ use Prim.Native.String.{String}
 use lib.Dec.{eqb}
 use lib.IntN.{ℤ, pos, negℤ}
 use lib.ListN.{length, replicate}
+use Rattle.text.specs.Byte.{bytes}
 use Rattle.text.specs.Cut.{indexOf, before}
 use Rattle.text.specs.Digits.{digitsWithin, digits}
 use Rattle.text.specs.Level.{signText, tenthText, shortTenthText, wholeText, levelText}
@@ -31,7 +32,7 @@ use Rattle.spelling.specs.IndexText.{groupText, indexText}
 use Rattle.spelling.specs.Say.{say, saidPart}
 use Rattle.spelling.specs.Text.{partText, textOf}
 use Rattle.line.specs.Worked as reading
-use Rattle.line.specs.Worked.{oneByteRecord, tableA, zeros, bytes}
+use Rattle.line.specs.Worked.{oneByteRecord, tableA, zeros}
 use Rattle.wish.specs.Target.{wishOf, atMostOne, selectionRight, chosen, chosenPermitted, wantedRight, targetOf, target}
 use Rattle.wish.specs.Listing.{changesOf, changes, lineOf, listing, borneOnce, reachable, allReachable, selectionNumber, wantedNumber, reachNumber, spaceNumber, restoreNumber, Told, tell, restore}
 
@@ -89,7 +90,7 @@ examples = map line reading.cases ++ map list lists
 -- ---- the lines are shown where they are read, the lists here
 
 lists-shown : every shown (map list lists) ≡ true
-unfolding shown agrees called lists four wishes ended bytes tableA oneByteRecord zeros
+unfolding shown agrees called lists four wishes ended tableA oneByteRecord zeros
     indexOf before every digitsWithin digits signText tenthText shortTenthText wholeText levelText switchText
     minus level switch number catalogue known rowsIn rowsOf permitted
     labelByte labelRight isZero fieldSound bodyLength bodySound layoutOf recordsSound recordLimit sound modulesFrom modules

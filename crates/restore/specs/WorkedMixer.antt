@@ -7,6 +7,7 @@ use Prim.Native.String.{String}
 use lib.Dec.{eqb}
 use lib.IntN.{ℤ, pos}
 use lib.ListN.{length, replicate, set}
+use Rattle.text.specs.Byte.{bytes}
 use Rattle.text.specs.Cut as cut
 use Rattle.text.specs.Cut.{indexOf}
 use Rattle.text.specs.Digits.{digitsWithin, digits}
@@ -32,7 +33,6 @@ use Rattle.spelling.specs.Line.{lineFor}
 use Rattle.spelling.specs.Name.{front, name}
 use Rattle.spelling.specs.Say.{outputOr, say, saidPart}
 use Rattle.spelling.specs.Text.{partText, textOf}
-use Rattle.line.specs.Worked.{bytes}
 use Rattle.line.specs.WorkedMixer.{mixer}
 use Rattle.wish.specs.Target.{wishOf, atMostOne, selectionRight, chosen, chosenPermitted, wantedRight, targetOf, target}
 use Rattle.wish.specs.Listing.{changesOf, changes, lineOf, listing, borneOnce, reachable, allReachable, selectionNumber, wantedNumber, reachNumber, spaceNumber, restoreNumber, Told, tell, restore}
@@ -68,7 +68,7 @@ unfoldable pub shown : Case → Bool
 shown c = agrees (called c) c
 
 pub worked : every shown lists ≡ true
-unfolding shown agrees called lists three wishes present theatre mixer ended bytes
+unfolding shown agrees called lists three wishes present theatre mixer ended
     indexOf cut.before every digitsWithin digits switchText hexDigit hexDigits hexText bitAt bit differingTo differing single onlyDiffering
     known sizeRight fader mute channelRow routeRow mixerRow tabulated mixerCount mixerRows rowsOf permitted
     labelByte labelRight isZero fieldSound bodyLength bodySound sizesSound layoutOf recordsSound recordLimit sound modulesFrom modules

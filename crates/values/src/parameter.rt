@@ -48,7 +48,7 @@ pub(crate) fn mixer_parameter(m: Module, indices: Indices) -> ParameterFound
 }
 
 // How many parameters a table has.
-pub(crate) fn parameter_count(table: &[u8]) -> usize
+pub fn parameter_count(table: &[u8]) -> usize
     requires { ⌜ sound (now table) ≡ true ⌝ }
     ensures { λ r. ⌜ r ≡ length (parameters (now (table .entry))) ⌝ }
 {

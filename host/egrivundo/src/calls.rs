@@ -1,7 +1,7 @@
-//! The four calls of the archive over slices and blocks of fixed size, with
+//! The calls of the archive over slices and blocks of fixed size, with
 //! their bare numbers.
 //!
-//! The numbers 1 to 8 are those of [`Refusal`]; with them `told` is set to
+//! The numbers 1 to 9 are those of [`Refusal`]; with them `told` is set to
 //! zero and nothing else changes.
 //!
 //! [`Refusal`]: crate::Refusal
@@ -47,9 +47,36 @@ extern "C" {
         list_count: usize,
         told: *mut [u64; 2],
     ) -> u8;
+
+    fn egrivundo_value_count(table: *const u8, table_count: usize, told: *mut [u64; 1]) -> u8;
+
+    fn egrivundo_starts(
+        table: *const u8,
+        table_count: usize,
+        values: *mut i64,
+        values_count: usize,
+    ) -> u8;
+
+    fn egrivundo_place(
+        table: *const u8,
+        table_count: usize,
+        owner: u64,
+        row: u64,
+        told: *mut [u64; 1],
+    ) -> u8;
+
+    fn egrivundo_row(
+        table: *const u8,
+        table_count: usize,
+        owner: u64,
+        row: u64,
+        told: *mut [i64; 7],
+    ) -> u8;
+
+    fn egrivundo_refusal(number: u8, text: *mut [u8; 64]);
 }
 
-// Safety of all four: each pointer and count come from one slice, and each
+// Safety of all: each pointer and count come from one slice, and each
 // pointer alone from a block of the size that the call takes, so they are
 // valid for the call; the unique ones overlap nothing, since Rust lent them
 // so; and the archive keeps no pointer.
@@ -147,4 +174,60 @@ pub fn restore(
             told,
         )
     }
+}
+
+/// How many values a table has. `told` becomes that number.
+///
+/// ```
+/// let mut told = [9];
+/// assert_eq!(egrivundo::calls::value_count(&[], &mut told), 0);
+/// assert_eq!(told, [0]);
+/// ```
+#[inline]
+#[must_use = "0 is accepted, any other number refused"]
+pub fn value_count(table: &[u8], told: &mut [u64; 1]) -> u8 {
+    unsafe { egrivundo_value_count(table.as_ptr(), table.len(), told) }
+}
+
+/// The start values: `values`, one for each parameter, becomes them.
+#[inline]
+#[must_use = "0 is accepted, any other number refused"]
+pub fn starts(table: &[u8], values: &mut [i64]) -> u8 {
+    unsafe {
+        egrivundo_starts(
+            table.as_ptr(),
+            table.len(),
+            values.as_mut_ptr(),
+            values.len(),
+        )
+    }
+}
+
+/// Where the value of a module's row stands. Module and row count from 0;
+/// `told` becomes the place, from 0 too.
+#[inline]
+#[must_use = "0 is accepted, any other number refused"]
+pub fn place(table: &[u8], owner: u64, row: u64, told: &mut [u64; 1]) -> u8 {
+    unsafe { egrivundo_place(table.as_ptr(), table.len(), owner, row, told) }
+}
+
+/// A module's row, both counted from 0. `told` becomes index 1, index 2 (-1:
+/// none), the kind (0 level, 1 switch, 2 number, 3 word), low, high, step, and
+/// 1 where a line may set it, else 0.
+#[inline]
+#[must_use = "0 is accepted, any other number refused"]
+pub fn row(table: &[u8], owner: u64, row: u64, told: &mut [i64; 7]) -> u8 {
+    unsafe { egrivundo_row(table.as_ptr(), table.len(), owner, row, told) }
+}
+
+/// The words of an answer's number, with zero bytes behind them.
+///
+/// ```
+/// let mut text = [1; 64];
+/// egrivundo::calls::refusal(8, &mut text);
+/// assert!(text.starts_with(b"the list does not fit its buffer\0"));
+/// ```
+#[inline]
+pub fn refusal(number: u8, text: &mut [u8; 64]) {
+    unsafe { egrivundo_refusal(number, text) }
 }

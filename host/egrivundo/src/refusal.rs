@@ -1,3 +1,4 @@
+use crate::calls;
 use std::{error, fmt};
 
 /// Why a call was refused, with the paper's number.
@@ -22,6 +23,8 @@ pub enum Refusal {
     Reach = 7,
     /// The list buffer is too short.
     List = 8,
+    /// There is no such module or row.
+    Row = 9,
 }
 
 impl Refusal {
@@ -47,26 +50,22 @@ impl Refusal {
             6 => Refusal::Wanted,
             7 => Refusal::Reach,
             8 => Refusal::List,
+            9 => Refusal::Row,
             _ => panic!("the archive answered {answer}, which is no refusal"),
         })
     }
 }
 
+/// The number, and its words as the core has them.
 impl fmt::Display for Refusal {
     fn fmt(&self, out: &mut fmt::Formatter) -> fmt::Result {
-        let reason = match self {
-            Refusal::Table => "the table is not sound",
-            Refusal::Values => "the values are of the wrong length or not permitted",
-            Refusal::Reply => "the reply buffer is too short",
-            Refusal::Port => "the port claims too many held bytes",
-            Refusal::Selection => "the selection is of the wrong length or has a byte over 1",
-            Refusal::Wanted => "the wanted values are of the wrong length or not permitted",
-            Refusal::Reach => {
-                "a wanted change is beyond reach: its row is read-only or its label is shared"
-            }
-            Refusal::List => "the list buffer is too short",
-        };
-        write!(out, "refused with {}: {reason}", self.number())
+        let mut text = [0; 64];
+        calls::refusal(self.number(), &mut text);
+        let words = text.split(|byte| *byte == 0).next().unwrap_or_default();
+        write!(out, "refused with {}: ", self.number())?;
+        words
+            .iter()
+            .try_for_each(|byte| write!(out, "{}", char::from(*byte)))
     }
 }
 

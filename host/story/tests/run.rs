@@ -67,7 +67,7 @@ fn more_crates_take_longer() {
     crates += "capi: c0 c1 c2 c3 c4 c5 c6 c7 c8 c9\n";
     copy.folder.file("crates.txt", crates);
     let (_, _, errors) = copy.run(&[], &[]);
-    let first = "Proving 14 of 14 crates, once; some 3 minutes. ";
+    let first = "Proving 14 of 14 crates, once; some 4 minutes. ";
     assert!(errors.starts_with(first), "{errors}");
 }
 

@@ -50,7 +50,7 @@ pub record OwnRow (m : Module) (j : ℕ) (p : Parameter) : Type 0 where
   pub inside : j < length (rowsOf (m .layout))
   pub row : p .row ≡ rowOf (m .layout) j
 
-own-inside : (ps : List Parameter) (j : ℕ) (p : Parameter) → parameterAt ps j ≡ At p → j < length ps
+pub own-inside : (ps : List Parameter) (j : ℕ) (p : Parameter) → parameterAt ps j ≡ At p → j < length ps
 unfolding parameterAt
 own-inside [] j p e = absurd (let z : _≡_ {A = ℕ} 0 1 = cc in omega arith)
 own-inside (q ∷ ps) zero p e = omega arith

@@ -2,7 +2,7 @@
 use mathlib.Core.Path.{_≡_, refl}
 use mathlib.Core.Bool.{true}
 use mathlib.Core.List.{List}
-use Prim.Native.Nat.{ℕ, _+_, _≤_, _<_}
+use Prim.Native.Nat.{ℕ, _+_, _^_, _≤_, _<_}
 use native.Mathlib.Omega.{arith}
 use lib.ListN.{length, getD}
 use Rattle.catalogue.specs.Catalogue.{rowLimit, rowsOf}
@@ -10,9 +10,12 @@ use Rattle.record.specs.Body.{bodyLength}
 use Rattle.record.specs.Layout.{layoutAt}
 use Rattle.room.specs.Table.{recordLimit, sound}
 use Rattle.room.specs.Table.Walk.{Walk, walk-induction}
-use Rattle.values.specs.Parameters.{parameters}
+use Rattle.values.specs.Parameters.{parameterAt, parameters}
+use Rattle.values.specs.Parameters.Laws.{own-inside}
 use Rattle.values.specs.Values.{valueLimit}
 use Rattle.values.specs.Parameters.Walk.{Counted, counted-all, counted-next, counted-start}
+use Rattle.values.specs.declared.parameter.Parameter.{Parameter}
+use Rattle.values.specs.declared.parameter.ParameterFound.the-variants.{At}
 
 -- the walk that counts them ends at their number, which it keeps small
 abbrev FewFrom : List ℕ → (number place first : ℕ) → Type 0
@@ -32,3 +35,8 @@ few-from t = walk-induction t (FewFrom t) last more
 
 pub parameters-few : (t : List ℕ) → sound t ≡ true → length (parameters t) ≤ valueLimit
 parameters-few t h = let c = counted-start t h in few-from t 0 0 0 (c .walk) c
+
+-- and so a parameter's place is small
+pub place-few : (t : List ℕ) → sound t ≡ true → (k : ℕ) (p : Parameter) → parameterAt (parameters t) k ≡ At p → k < 2 ^ 32
+unfolding valueLimit recordLimit rowLimit
+place-few t h k p e = omega (arith, own-inside (parameters t) k p e, parameters-few t h)

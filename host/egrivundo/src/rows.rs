@@ -1,10 +1,7 @@
 //! What the core tells of a table's values and rows. All that this crate knows
 //! of them comes through here.
 
-mod standin;
-
-use standin as calls;
-
+use crate::calls;
 use crate::{Index, Kind, Row};
 
 /// How many values a sound table has.
