@@ -1,5 +1,6 @@
 -- What a line means in a room, and the answer to it.
 pub mod Answer
+pub mod Asked
 pub mod Fault
 pub mod Meaning
 pub mod Said

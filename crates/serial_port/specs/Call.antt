@@ -3,6 +3,7 @@ pub mod Accepted
 pub mod Faults
 pub mod Finishing
 pub mod Laws
+pub mod OneLine
 pub mod Rules
 pub mod Serving
 pub mod Telling

@@ -12,7 +12,7 @@ pub const HELD: usize = 64;
 pub const REPLY: usize = 64;
 
 // 3 where a reply buffer of `room` bytes has fewer than the least, or 0.
-fn reply_number(least: usize, room: usize) -> u8
+pub fn reply_number(least: usize, room: usize) -> u8
     ensures { λ r. ⌜ r ≡ replyNumber least room ⌝ }
 {
     if room < least {

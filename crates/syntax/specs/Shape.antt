@@ -1,5 +1,6 @@
 -- The shape of a line: verb, perhaps a space, label between quotes, index part and, in a set line, `=` and the value text.
 pub mod Causes
+pub mod Getting
 pub mod Laws
 pub mod Quotes
 pub mod Reading

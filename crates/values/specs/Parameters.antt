@@ -4,6 +4,7 @@ pub mod Each
 pub mod Elements
 pub mod First
 pub mod Laws
+pub mod Missing
 pub mod Mixer
 pub mod Named
 pub mod Owned

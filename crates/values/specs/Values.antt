@@ -1,4 +1,5 @@
 -- The value list: one value for each parameter, in the parameters' order.
+pub mod Compared
 pub mod Each
 pub mod Few
 pub mod Fitting

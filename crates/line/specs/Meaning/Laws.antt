@@ -195,3 +195,8 @@ get-told r vs line p u h = go (shape line) refl h
         record { quote = o; close = c; shaped = s; names = names-told (r .table) (part line (o + 1) c) (part line (c + 1) (length line)) p u g }
     go (shape.Set o c e) s h =
         absurd (set-gets r p u vs (part line (e + 1) (length line)) (inRoom (bearer (r .table) (part line (o + 1) c)) (readIndices (part line (c + 1) e))) h)
+
+pub gets-back : (r : Room) (vs : List ℤ) (line : List ℕ) (p : Parameter) (u : Part) → Gets (r .table) line p u → meaning r vs line ≡ Get p u
+unfolding meaning ofShape bearerOf getOf
+gets-back r vs line p u h =
+    rw (h .shaped, names-back (r .table) (part line (h .quote + 1) (h .close)) (part line (h .close + 1) (length line)) p u (h .names))

@@ -40,6 +40,7 @@ use Rattle.syntax.specs.Value.Laws.{Valued}
 use Rattle.values.specs.Room.{Room, rowIn}
 use Rattle.line.specs.Meaning.Laws.{Names, Puts}
 use Rattle.spelling.specs.IndexText.{indexText}
+use Rattle.syntax.specs.declared.index_part.IndexPart.the-variants as index
 use Rattle.syntax.specs.declared.shape.Shape.the-variants as shape
 use Rattle.spelling.specs.IndexText.Laws.{Foreign, indices-lack}
 use Rattle.spelling.specs.IndexText.Short.{whole-short, output-short}
@@ -95,22 +96,40 @@ no-equals : Foreign 0x3D
 no-equals =
     record { other = equals-other; no-arrow = λ e. omega arith; no-opening = λ e. omega arith; no-comma = λ e. omega arith; no-closing = λ e. omega arith }
 
-no-return : Foreign 0x0D
+pub no-return : Foreign 0x0D
 no-return =
     record { other = return-other; no-arrow = λ e. omega arith; no-opening = λ e. omega arith; no-comma = λ e. omega arith; no-closing = λ e. omega arith }
 
+-- a parameter of a module, whether or not another bears its label
+module _ (p : Parameter) (known : knownLayout (p .owner .layout) ≡ true) (own : parameterAt (parametersOf (p .owner)) (p .number) ≡ At p) where
+  own-sized : sizedRow (p .row) ≡ true
+  own-sized = row-sized (p .owner) (p .number) p known own
+
+  own-indices : sizedIndices (p .row .indices) ≡ true
+  own-indices = row-indices (p .row) own-sized
+
+  -- the index groups of a part, and the text of this part of any value of 64 bits
+  pub own-held : (u : Part) (x : ℤ) → PartIn u → SFits w64 x → length (indexText (groupsOf (p .row .indices) u)) + length (partText (p .row .kind) u x) ≤ 26
+  own-held Whole x k f = rw (whole-text (p .row .kind) x) (omega (arith, whole-short (p .row .indices) own-indices, held-text (p .row .kind) x f))
+  own-held (Output o) x k f =
+      rw (output-text (p .row .kind) o x) (omega (arith, output-short (p .row .indices) o own-indices (k .most o refl), switch-length (bit o (natAbs x))))
+
 module _ (t : List ℕ) (p : Parameter) (r : Reached t p) where
   fits : sizedRow (p .row) ≡ true
-  fits = row-sized (p .owner) (p .number) p (r .known) (r .own)
+  fits = own-sized p (r .known) (r .own)
 
   indices-fit : sizedIndices (p .row .indices) ≡ true
-  indices-fit = row-indices (p .row) fits
+  indices-fit = own-indices p (r .known) (r .own)
 
   pub reached-sized : (x : ℤ) → permitted (p .row) x ≡ true → Sized (p .row .kind) x
   reached-sized x h = permitted-sized (p .row) x fits h
 
   pub reached-part : (u : Part) → PartOf p u → PartIn u
   reached-part u h = part-in p u (r .known) (r .own) h
+
+  -- the index groups of a part read back
+  pub reached-indices : (u : Part) → PartOf p u → readIndices (indexText (groupsOf (p .row .indices) u)) ≡ index.Right (groupsOf (p .row .indices) u)
+  reached-indices u h = indices-back (groupsOf (p .row .indices) u) (row-small (p .row .indices) u indices-fit (reached-part u h))
 
   -- the index groups and the text of a part are short
   pub said-short : (u : Part) (x : ℤ) → PartIn u → Sized (p .row .kind) x
@@ -121,9 +140,7 @@ module _ (t : List ℕ) (p : Parameter) (r : Reached t p) where
 
   -- of any value of 64 bits they are not much longer
   pub held-short : (u : Part) (x : ℤ) → PartIn u → SFits w64 x → length (indexText (groupsOf (p .row .indices) u)) + length (partText (p .row .kind) u x) ≤ 26
-  held-short Whole x k f = rw (whole-text (p .row .kind) x) (omega (arith, whole-short (p .row .indices) indices-fit, held-text (p .row .kind) x f))
-  held-short (Output o) x k f =
-      rw (output-text (p .row .kind) o x) (omega (arith, output-short (p .row .indices) o indices-fit (k .most o refl), switch-length (bit o (natAbs x))))
+  held-short u x k f = own-held p (r .known) (r .own) u x k f
 
   module _ (u : Part) where
     abbrev of : List ℕ
@@ -166,7 +183,7 @@ module _ (t : List ℕ) (p : Parameter) (r : Reached t p) where
           names = record {
             one = ap (bearer t) labelled ∙ r .one;
             groups = groupsOf (p .row .indices) u;
-            right = ap readIndices indexed ∙ indices-back (groupsOf (p .row .indices) u) (row-small (p .row .indices) u indices-fit (reached-part u has));
+            right = ap readIndices indexed ∙ reached-indices u has;
             names = named-back p u (r .known) (r .own) has;
           };
           text = set-line-text line l i w (set-line w);

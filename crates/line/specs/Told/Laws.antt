@@ -11,11 +11,14 @@ use mir.Val.{SFits}
 use Rattle.text.specs.Cut.{indexOf}
 use Rattle.text.specs.Cut.Lacking.{index-joined}
 use Rattle.text.specs.Byte.Values.{return-other}
+use Rattle.catalogue.specs.Catalogue.{knownLayout}
 use Rattle.catalogue.specs.Groups.{PartIn}
 use Rattle.catalogue.specs.declared.groups.Part.{Part}
 use Rattle.values.specs.Control.Laws.{PartOf}
+use Rattle.record.specs.Field.{labelRight}
+use Rattle.record.specs.Field.Bytes.{label-right}
 use Rattle.room.specs.Label.{label, bearer}
-use Rattle.values.specs.Parameters.{parameters, parameterAt, place}
+use Rattle.values.specs.Parameters.{parameters, parametersOf, parameterAt, place}
 use Rattle.catalogue.specs.Row.{permitted}
 use Rattle.room.specs.Table.{sound}
 use Rattle.room.specs.declared.label.Bearer.the-variants.{Only}
@@ -31,7 +34,7 @@ use Rattle.spelling.specs.Reply.{asSetLine, getReply}
 use Rattle.spelling.specs.Reply.Laws.{get-spelled, reply-as-set}
 use Rattle.spelling.specs.Text.{partText}
 use Rattle.spelling.specs.Text.Parts.{part-lacks}
-use Rattle.line.specs.Said.Naming.{Reached, reached, reached-part, naming, parts-put, reached-sized, said-short, held-short, naming-short, naming-within, naming-parts, rest, naming-rest, rest-no-return, verb-no-return}
+use Rattle.line.specs.Said.Naming.{Reached, reached, reached-part, naming, parts-put, reached-sized, said-short, own-held, naming-short, naming-parts, rest, naming-rest, rest-no-return, verb-no-return}
 use Rattle.line.specs.declared.meaning.Meaning.the-variants.{Put}
 use Rattle.line.specs.Told.{Told}
 
@@ -49,9 +52,16 @@ module _ (t : List ℕ) (p : Parameter) (u : Part) (v : ℤ) where
   pub reply-length : length (getReply t p u v) ≡ length (naming t p u (partText (p .row .kind) u v)) + 1
   reply-length = rw (reply-rest, naming-rest t p u text) (simp length-append (omega arith))
 
-  -- whatever value of 64 bits is told, the reply is short
+  -- whatever value of 64 bits is told, the reply is short, also where another module bears the label
+  pub reply-within : labelRight (label t (p .owner)) ≡ true → knownLayout (p .owner .layout) ≡ true → parameterAt (parametersOf (p .owner)) (p .number) ≡ At p
+      → PartIn u → SFits w64 v → length (getReply t p u v) ≤ 64
+  reply-within right known own k f =
+      let l = label-right (label t (p .owner)) right .most in
+      let h = own-held p known own u v k f in
+      rw (get-spelled t p u v) (simp length-append (omega arith))
+
   pub reply-held : Reached t p → PartIn u → SFits w64 v → length (getReply t p u v) ≤ 64
-  reply-held r k f = omega (arith, reply-length, naming-within t p r u text 26 (held-short t p r u v k f))
+  reply-held r k f = reply-within (r .right) (r .known) (r .own) k f
 
   reply-ends : Reached t p → indexOf 0x0D (getReply t p u v) + 1 ≡ length (getReply t p u v)
   reply-ends r =

@@ -6,9 +6,6 @@ use Prim.Native.Nat.{ℕ, _+_, _≤_, _<_}
 use native.Mathlib.Omega.{arith}
 use lib.IntN.{ℤ, pos}
 use lib.ListN.{length, getD, drop}
-use mir.Facts.{toZ-ofZ}
-use mir.Syntax.{w64}
-use mir.Val.{SFits, ofZ, toZ}
 use Rattle.catalogue.specs.Catalogue.{rowsOf}
 use Rattle.values.specs.Parameters.{parametersOf}
 use Rattle.values.specs.Parameters.Laws.{length-parametersOf, parameterOf, parametersOf-at}
@@ -17,23 +14,6 @@ use Rattle.wish.specs.Listing.{Change, changesOf}
 use Rattle.wish.specs.Listing.Rows.{changes-from, changes-past}
 use Rattle.restore_list.specs.Measuring.{rowChanges}
 use Rattle.values.specs.Values.{equal}
-use Rattle.values.specs.Values.Laws.{equal-refl, equal-true}
-
--- ---- two values are compared by their bits
-
-pub bits-equal : (v x : ℤ) → SFits w64 v → SFits w64 x → ofZ w64 v ≡ ofZ w64 x → equal v x ≡ true
-bits-equal v x f g e =
-    let s : v ≡ x = sym (toZ-ofZ f) ∙ ap (toZ w64) e ∙ toZ-ofZ g in
-    rw s (equal-refl x)
-
-pub bits-differ : (v x : ℤ) → (ofZ w64 v ≡ ofZ w64 x → ⊥) → equal v x ≡ false
-bits-differ v x h = go (equal v x) refl
-  where
-    go : (b : Bool) → equal v x ≡ b → b ≡ false
-    go true e = absurd (h (ap (ofZ w64) (equal-true v x e)))
-    go false e = refl
-
--- ---- the rows
 
 -- the changes of the first j rows are `done`
 pub record RowWalk (m : Module) (vs ws : List ℤ) (j : ℕ) (done : List Change) : Type 0 where

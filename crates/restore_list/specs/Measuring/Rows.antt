@@ -25,7 +25,8 @@ use Rattle.wish.specs.Listing.Laws.{listing-append, listing-none, one-line}
 use Rattle.wish.specs.Listing.Settable.{allSettable, settable-append, settable-none, settable-one}
 use Rattle.restore_list.specs.Measuring.{Settles, measuredIf, rowChanges}
 use Rattle.restore_list.specs.Measuring.Listed.{whole-said}
-use Rattle.restore_list.specs.Measuring.RowWalk.{RowWalk, bits-differ, bits-equal, changeOf, row-inside, rows-all, rows-differ, rows-equal, rows-start}
+use Rattle.values.specs.Values.Compared.{bits-differ, bits-equal}
+use Rattle.restore_list.specs.Measuring.RowWalk.{RowWalk, changeOf, row-inside, rows-all, rows-differ, rows-equal, rows-start}
 use Rattle.restore_list.specs.Measuring.Told.{few-beyond, few-within}
 use Rattle.restore_list.specs.declared.module_measuring.Measured.the-variants.{Within, Beyond}
 

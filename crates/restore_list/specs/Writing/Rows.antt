@@ -22,7 +22,8 @@ use Rattle.wish.specs.Listing.{Change, listing}
 use Rattle.wish.specs.Listing.Laws.{first-fits, listing-append, listing-none, one-line}
 use Rattle.restore_list.specs.Measuring.{rowChanges}
 use Rattle.restore_list.specs.Measuring.Listed.{whole-said}
-use Rattle.restore_list.specs.Measuring.RowWalk.{RowWalk, bits-differ, bits-equal, changeOf, row-inside, rows-all, rows-differ, rows-equal, rows-start}
+use Rattle.values.specs.Values.Compared.{bits-differ, bits-equal}
+use Rattle.restore_list.specs.Measuring.RowWalk.{RowWalk, changeOf, row-inside, rows-all, rows-differ, rows-equal, rows-start}
 
 -- the lines of the first j rows were written
 pub record RowsPut (t : List ℕ) (m : Module) (vs ws : List ℤ) (buffer : List ℕ) (start : ℕ) (after : List ℕ) (at j : ℕ) : Type 0 where

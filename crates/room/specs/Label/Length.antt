@@ -1,14 +1,14 @@
--- A label by its length: it is the part of the table from its field's start on, and lies within its field.
+-- A label by its length: it is the part of the table from its field's start on, and lies within its field; and its bytes by their places.
 use mathlib.Core.Path.{_≡_, sym, _∙_}
 use mathlib.Core.List.{List}
-use Prim.Native.Nat.{ℕ, _+_, _-_, _≤_}
+use Prim.Native.Nat.{ℕ, _+_, _-_, _≤_, _<_}
 use native.Mathlib.Omega.{arith}
-use lib.ListN.{length, take, drop, length-take}
-use lib.Seq.{take-take}
+use lib.ListN.{length, getD, take, drop, length-take}
+use lib.Seq.{getD-drop, getD-take, take-take}
 use mir.Syntax.{w64}
 use mir.Val.{Fits}
 use Rattle.text.specs.Cut.{before}
-use Rattle.text.specs.Cut.First.{before-short, before-taken}
+use Rattle.text.specs.Cut.First.{before-byte, before-short, before-taken}
 use Rattle.room.specs.declared.table.Module.{Module}
 use Rattle.room.specs.Label.{label}
 
@@ -38,3 +38,11 @@ module _ (t : List ℕ) (m : Module) (n : ℕ) (e : n ≡ length (label t m)) wh
   label-end-fits h f = let s = label-short in record { fits = omega (arith, f .fits) }
 
 pub ruleset label-place = (label-inside, label-end-fits)
+
+-- byte i of a label is the table's byte i on from the field's start
+pub label-byte : (t : List ℕ) (m : Module) (i : ℕ) → i < length (label t m) → getD (label t m) i 0 ≡ getD t (m .place + 1 + i) 0
+unfolding label
+label-byte t m i l =
+    let f = take 32 (drop (m .place + 1) t) in
+    let s : i < 32 = omega (arith, before-short 0 f, length-take 32 (drop (m .place + 1) t)) in
+    before-byte 0 f i 0 l ∙ getD-take 32 (drop (m .place + 1) t) i 0 s ∙ getD-drop (m .place + 1) t i 0

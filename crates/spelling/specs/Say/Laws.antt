@@ -50,14 +50,14 @@ said-whole kind.Switch v x h = refl
 said-whole kind.Number v x h = refl
 said-whole kind.Word v x h = absurd (h refl)
 
-whole-in : PartIn Whole
+pub whole-in : PartIn Whole
 whole-in =
     record {
       some = λ o e. absurd (let z : _≡_ {A = ℕ} 0 1 = cc in omega arith);
       most = λ o e. absurd (let z : _≡_ {A = ℕ} 0 1 = cc in omega arith);
     }
 
-output-in : (o : ℕ) → 1 ≤ o → o ≤ 32 → PartIn (Output o)
+pub output-in : (o : ℕ) → 1 ≤ o → o ≤ 32 → PartIn (Output o)
 output-in o l m =
     record {
       some = λ q e. let f : o ≡ q = cc in omega arith;
