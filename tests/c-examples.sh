@@ -4,7 +4,7 @@ set -euo pipefail
 cd "$(dirname "${BASH_SOURCE[0]}")/.."
 out=$(mktemp -d)
 trap 'rm -rf "$out"' EXIT
-for example in serve restore; do
+for example in serve restore knob; do
     "${CC:-cc}" -std=c99 -Wall -Wextra -Wpedantic -Werror -O2 -Ihost/include "examples/c/$example.c" target/c/libegrivundo.a -o "$out/$example"
 done
 
@@ -48,6 +48,19 @@ compare "serve, of the values after the list," "$out/now" "$out/values"
 "$out/restore" "$out/table" "$out/now" "$out/values" 2 >"$out/list" 2>/dev/null
 compare "restore, of nothing," "$out/list" "$out/wanted"
 
+# Knobs: told of where the label has a # and the value changed, and silent else; the one value is set.
+sed 's/"Commentary"/"#Commentary"/' examples/viewing-room.room >"$out/marked.room"
+examples/room.py pack "$out/marked.room" "$out/marked" "$out/turned"
+"$out/knob" "$out/marked" "$out/turned" 0 0 -40 >"$out/replies"
+printf 'GA"#Commentary">1=-4\r' >"$out/wanted"
+compare "knob" "$out/replies" "$out/wanted"
+{ "$out/knob" "$out/marked" "$out/turned" 0 0 -40 && "$out/knob" "$out/marked" "$out/turned" 1 0 20; } >"$out/replies"
+: >"$out/wanted"
+compare "knob, of nothing to tell," "$out/replies" "$out/wanted"
+examples/room.py unpack "$out/marked" "$out/turned" >"$out/room"
+sed -e 's/^    1 = -6.5$/    1 = -4/' -e 's/^    1 = 1.5$/    1 = 2/' < <(examples/room.py unpack "$out/marked" "$out/values") >"$out/wanted"
+compare "knob, of its values," "$out/room" "$out/wanted"
+
 # What is refused, with its status.
 status() { # WANTED COMMAND..
     local got=0
@@ -61,7 +74,16 @@ status 1 "$out/restore" "$out/short" "$out/now" "$out/values" 1
 status 2 "$out/restore"
 status 1 "$out/serve" "$out/nothing" "$out/values"
 status 2 "$out/serve"
+cp "$out/turned" "$out/before"
+for knob in '0 6 0' '7 0 0' '-1 0 0' '0 0 151' '5 0 0'; do
+    # shellcheck disable=SC2086
+    status 1 "$out/knob" "$out/marked" "$out/turned" $knob
+done
+status 1 "$out/knob" "$out/marked" "$out/short" 0 0 0
+status 2 "$out/knob" "$out/marked" "$out/turned" 0 0 loud
+status 2 "$out/knob"
+compare "knob, refused," "$out/turned" "$out/before"
 printf 'x' | "$out/serve" "$out/table" "$out/short" >"$out/list" 2>"$out/reports" && { echo "FAILED: serve takes a short list of values"; exit 1; }
 echo 'refused with 2: values: wrong length, or one that is not permitted' >"$out/wanted"
 compare "serve, of a short list of values," "$out/reports" "$out/wanted"
-echo "c-examples: serve and restore write what they must"
+echo "c-examples: serve, restore and knob write what they must"

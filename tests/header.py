@@ -89,6 +89,14 @@ for count, cause in ((limit["HELD_BYTES"], 2), (limit["HELD_BYTES"] + 1, 1)):
     call((ctypes.c_uint8 * 66)(), b"x" * count + b"\r", 64)
     expect(told[2] == cause, f"a line of {count} bytes")
 
+# A panel change: its buffer, and the longest answer that it tells, that of the last input's word under the longest label.
+most = limit["ROWS"] - 1
+for size, answer in ((limit["REPLY_BYTES"] - 1, 3), (limit["REPLY_BYTES"], 0)):
+    expect(library.panel(table, [0], 0, 0, 1, size)[0] == answer, "bytes of a panel's reply buffer")
+expect(len(library.panel(mixers(1, b"#" * 32), [0] * limit["ROWS"], 0, most, 3)[2]) == limit["LIST_LINE_BYTES"], "bytes that are told of a panel change")
+expect(library.panel(mixers(1), [0] * limit["ROWS"], 0, most + 1, 0)[0] == limit["REFUSED_ROW"], "rows of a module, for a panel")
+expect(library.panel(longest, [0] * limit["VALUES"], limit["MODULES"], 0, 0)[0] == limit["REFUSED_ROW"], "modules, for a panel")
+
 # The longest line of a restore list: two outputs of the last input's word, under the longest label.
 wanted = [0] * (limit["ROWS"] - 1) + [3]
 told_now = library.restore(mixers(1, b"x" * 32), [0] * limit["ROWS"], [1], wanted, 64)

@@ -14,6 +14,7 @@ import sys
 OPEN = [
     ("*", "line/specs/Worked*.antt", "the worked lines compute"),
     ("*", "restore/specs/Worked*.antt", "the worked lists compute"),
+    ("*", "panel/specs/Worked.antt", "the worked changes compute"),
     ("text Every.every", "catalogue/specs/Catalogue/*", "a test computed over the constant catalogue"),
     ("text Every.pairs", "catalogue/specs/Catalogue/*", "a test computed over the constant catalogue"),
     ("syntax Shape.lineLimit", "*", "a limit: 64 bytes of a line"),

@@ -13,7 +13,7 @@ PATH = pathlib.Path(os.environ.get("EGRIVUNDO_SHARED", ROOT / "target/c/libegriv
 if not PATH.exists():
     sys.exit(f"{PATH} is missing: run `make`")
 library = ctypes.CDLL(str(PATH))
-for call in ("table", "port", "restore", "value_count", "starts", "place", "row"):
+for call in ("table", "port", "panel", "restore", "value_count", "starts", "place", "row"):
     getattr(library, f"egrivundo_{call}").restype = ctypes.c_uint8
 
 
@@ -32,6 +32,14 @@ def feed(table, values, given):
     reply, told = (ctypes.c_uint8 * 64)(), (ctypes.c_uint64 * 4)()
     answer = library.egrivundo_port(*lent(ctypes.c_uint8, table), numbers, count, (ctypes.c_uint8 * 66)(), *lent(ctypes.c_uint8, given), reply, ctypes.c_size_t(64), told)
     return answer, list(numbers)[:len(values)], bytes(reply)[:told[1]]
+
+
+def panel(table, values, owner, row, value, room=64):
+    """A panel change: the answer, the values afterwards, and what is told of it."""
+    numbers, count = lent(ctypes.c_int64, values)
+    reply, told = (ctypes.c_uint8 * max(room, 1))(), (ctypes.c_uint64 * 1)()
+    answer = library.egrivundo_panel(*lent(ctypes.c_uint8, table), numbers, count, ctypes.c_uint64(owner), ctypes.c_uint64(row), ctypes.c_int64(value), reply, ctypes.c_size_t(room), told)
+    return answer, list(numbers)[:len(values)], bytes(reply)[:told[0]]
 
 
 def restore(table, present, selection, wanted, size):

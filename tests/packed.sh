@@ -24,7 +24,7 @@ cmp "$out/one/$tarball" "$out/two/$tarball" || fail "packed twice, it differs"
 # It has what it must, its checksums are right and complete, and it tells the kit.
 tar -C "$out" -xzf "$out/one/$tarball"
 tree=$out/$name
-for file in include/egrivundo.h lib/libegrivundo.a "lib/libegrivundo.so.$version" lib/libegrivundo.so lib/pkgconfig/egrivundo.pc examples/c/serve.c examples/c/restore.c examples/room.py examples/table \
+for file in include/egrivundo.h lib/libegrivundo.a "lib/libegrivundo.so.$version" lib/libegrivundo.so lib/pkgconfig/egrivundo.pc examples/c/serve.c examples/c/restore.c examples/c/knob.c examples/room.py examples/table \
     docs/RULES.md docs/GLOSSARY.md README.md BUILD-INFO SHA256SUMS; do
     [[ -s $tree/$file ]] || fail "the package has no $file"
 done

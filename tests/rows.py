@@ -120,6 +120,8 @@ def of_library(kind, inputs, outputs, rows):
         _, after, reply = library.feed(table, starts, f'SA"L">{indices}={text}\r'.encode())
         if (after, reply) != ((put(high), b"\x06\r") if settable else (starts, b"\x1503\r")):
             faults.append(f"{indices} is {'not ' * settable}set")
+        if library.panel(table, starts, 0, place, high)[:2] != ((0, put(high)) if settable else (9, starts)):
+            faults.append(f"{indices} is {'not ' * settable}set by a panel, as row {place}")
     return [f"the library, kind {kind} {inputs}x{outputs}: {words}" for words in faults]
 
 

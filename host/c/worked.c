@@ -1,4 +1,4 @@
-/* The worked lines on table A, and some to a mixer, from C. Says "ok" or what is wrong. */
+/* The worked lines on table A, some to a mixer, and panel changes, from C. Says "ok" or what is wrong. */
 
 #include <stdio.h>
 #include <string.h>
@@ -143,6 +143,31 @@ static void sizes(void)
     }
 }
 
+/* Turns a knob of a room where a SmartBass S stands before the mixer, whose label is #M; all values are 0. S has one
+ * value, so that the value of a row stands at the sum of both numbers. */
+static void turned(uint64_t owner, uint64_t row, int64_t value, uint8_t right, const char *notice)
+{
+    uint8_t room[EGRIVUNDO_RECORD_BYTES + sizeof mixer] = {EGRIVUNDO_SMARTBASS, 'S'};
+    int64_t values[8] = {0};
+    int64_t expected[8] = {0};
+    uint8_t buffer[EGRIVUNDO_REPLY_BYTES] = {0};
+    uint64_t told[EGRIVUNDO_PANEL_TOLD] = {9};
+    uint8_t answer;
+    memcpy(room + EGRIVUNDO_RECORD_BYTES, mixer, sizeof mixer);
+    memcpy(room + EGRIVUNDO_RECORD_BYTES + 1, "#M", 2);
+    answer = egrivundo_panel(room, sizeof room, values, 8, owner, row, value, buffer, 63, told);
+    expect(answer == EGRIVUNDO_REFUSED_REPLY && told[0] == 0, "a panel's buffer of 63");
+    told[0] = 9;
+    answer = egrivundo_panel(room, sizeof room, values, 8, owner, row, value, buffer, 64, told);
+    if (right == EGRIVUNDO_OK) {
+        expected[owner + row] = value;
+    }
+    expect(answer == right && told[0] == strlen(notice), "what a panel is answered");
+    expect(memcmp(values, expected, sizeof values) == 0, "what a panel sets");
+    expect(memcmp(buffer, notice, strlen(notice)) == 0 && buffer[strlen(notice)] == 0,
+           "what is told of a panel change");
+}
+
 int main(void)
 {
     table[0] = EGRIVUNDO_TONE_CONTROL_EQ;
@@ -176,6 +201,17 @@ int main(void)
     routed("GA\"M\">04>(01,02)\r", "GA\"M\">4>(1,2)=O\r", two, two);
     rerouted(two, "SA\"M\">4>(1,2)=O\r");
     rerouted(one + two, "SA\"M\">3>1=C0000000\r");
+    turned(0, 0, 1, EGRIVUNDO_OK, "");
+    turned(1, 0, -605, EGRIVUNDO_OK, "GA\"#M\">1>1=-60.5\r");
+    turned(1, 1, 1, EGRIVUNDO_OK, "GA\"#M\">1>2=O\r");
+    turned(1, 6, two, EGRIVUNDO_OK, "GA\"#M\">3>1=40000000\r");
+    turned(1, 6, 0, EGRIVUNDO_OK, "");
+    turned(1, 6, 1, EGRIVUNDO_REFUSED_ROW, "");
+    turned(1, 0, -603, EGRIVUNDO_REFUSED_ROW, "");
+    turned(0, 1, 1, EGRIVUNDO_REFUSED_ROW, "");
+    turned(1, 7, 0, EGRIVUNDO_REFUSED_ROW, "");
+    turned(2, 0, 0, EGRIVUNDO_REFUSED_ROW, "");
+    turned(UINT64_MAX, UINT64_MAX, 0, EGRIVUNDO_REFUSED_ROW, "");
     sizes();
     restore();
     overrun();

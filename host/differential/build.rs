@@ -25,7 +25,7 @@ fn main() {
         writeln!(
             list,
             "Planted {{ name: {name:?}, about: {about:?}, calls: Calls {{ table: {name}::table, \
-             port: {name}::port, restore: {name}::restore, log: {name}::log }} }},"
+             port: {name}::port, panel: {name}::panel, restore: {name}::restore, log: {name}::log }} }},"
         )
         .unwrap();
     }

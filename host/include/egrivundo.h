@@ -33,10 +33,10 @@ extern "C" {
 
 /* The version. Another major or minor number may have other calls, or other
  * parameters in the same calls; the shared library's soname has both. */
-#define EGRIVUNDO_VERSION "0.3.1"
+#define EGRIVUNDO_VERSION "0.4.0"
 #define EGRIVUNDO_VERSION_MAJOR 0
-#define EGRIVUNDO_VERSION_MINOR 3
-#define EGRIVUNDO_VERSION_PATCH 1
+#define EGRIVUNDO_VERSION_MINOR 4
+#define EGRIVUNDO_VERSION_PATCH 0
 
 /* Limits. */
 #define EGRIVUNDO_RECORD_BYTES 33       /* of a record of kinds 1 to 6: kind,
@@ -55,6 +55,7 @@ extern "C" {
 #define EGRIVUNDO_PORT_BYTES 66         /* of a port: held count, overrun,
                                          * bytes                              */
 #define EGRIVUNDO_PORT_TOLD 4           /* numbers told by the port call      */
+#define EGRIVUNDO_PANEL_TOLD 1          /* numbers told by the panel call     */
 #define EGRIVUNDO_RESTORE_TOLD 2        /* numbers told by the restore call   */
 #define EGRIVUNDO_LOG_TOLD 3            /* numbers told by the log call       */
 #define EGRIVUNDO_ROW_TOLD 7            /* numbers told of a row              */
@@ -71,9 +72,9 @@ extern "C" {
 
 /* The order of values: module by module as in the table, and in a module row
  * by row as here. Rows count from 0. A value is permitted from low to high in
- * whole steps from low; levels are in tenths of a dB. Lines can set a row
- * unless it is read-only. "use" is what the protocol's manual calls it; no
- * call looks at that.
+ * whole steps from low; levels are in tenths of a dB. Lines and panels can set
+ * a row unless it is read-only. "use" is what the protocol's manual calls it;
+ * no call looks at that.
  *
  * kind row  indices  what      low    high  step  set        use
  *   1   0   1        level    -150     150     1  settable   low gain
@@ -156,7 +157,9 @@ extern "C" {
 #define EGRIVUNDO_REFUSED_REACH 7     /* a wanted change is on a read-only row
                                        * or on a label of several modules     */
 #define EGRIVUNDO_REFUSED_LIST 8      /* the list does not fit its buffer     */
-#define EGRIVUNDO_REFUSED_ROW 9       /* there is no such module or row       */
+#define EGRIVUNDO_REFUSED_ROW 9       /* there is no such module or row; of a
+                                       * change also: the row is read-only, or
+                                       * the value is not permitted           */
 
 /* Why a line was answered with 99; the first that applies is told. The place
  * is the byte of the line where it shows, counted from 0, also where the line
@@ -212,6 +215,25 @@ uint8_t egrivundo_port(const uint8_t *table, size_t table_count,
                        uint8_t *reply, size_t reply_count,
                        uint64_t told[EGRIVUNDO_PORT_TOLD]);
 
+/* A change at a wall panel, without a line: sets one value of the room.
+ *   table   a sound table
+ *   values  as in the port call; the one value is set, every other stays
+ *   owner   the module's number, from 0, in table order; a module whose label
+ *           another bears too is changed like any other
+ *   row     the row's number, from 0, as in the table of rows above; a
+ *           read-only row is refused, even with its present value
+ *   value   what the row shall be; the present value is accepted
+ *   reply   at least 64 bytes. Where the module's label begins with # and the
+ *           value did change, the answer to a get line is put at its start, a
+ *           routing word by index 3, and the rest stays. Else no byte changes
+ *   told    [0] length of that answer (0: none)
+ * Answers 0, 1, 2, 3 or 9. */
+uint8_t egrivundo_panel(const uint8_t *table, size_t table_count,
+                        int64_t *values, size_t values_count,
+                        uint64_t owner, uint64_t row, int64_t value,
+                        uint8_t *reply, size_t reply_count,
+                        uint64_t told[EGRIVUNDO_PANEL_TOLD]);
+
 /* Writes the shortest list of SA lines that brings the chosen modules from
  * the present values to the wanted ones and moves nothing else.
  *   table      a sound table
@@ -221,6 +243,8 @@ uint8_t egrivundo_port(const uint8_t *table, size_t table_count,
  *   list       the list is put at its start, the rest stays. A routing word
  *              in which one output differs is said by index 4, else by index 3
  *   told       [0] bytes written, [1] lines written
+ * The list is for a room where no knob of a wall panel turns until it has been
+ * played.
  * Answers 0, 1, 2, 5, 6, 7 or 8. */
 uint8_t egrivundo_restore(const uint8_t *table, size_t table_count,
                           const int64_t *present, size_t present_count,

@@ -1,5 +1,6 @@
 -- The definitions of capi.
 pub mod Log
+pub mod Panel
 pub mod Port
 pub mod Refusal
 pub mod Restore

@@ -11,6 +11,7 @@ use crate::port_bytes::port_of;
 use crate::port_bytes::store;
 use log::part::LogPart;
 use log::part::log_part;
+use panel::change;
 use restore::restore;
 use room::table::check;
 ghost use mathlib.Core.Path.{_≡_};
@@ -18,6 +19,7 @@ ghost use Rattle.room.specs.Table.{tableNumber};
 ghost use Rattle.values.specs.Room.{roomOf};
 ghost use Rattle.wish.specs.Target.{wishOf};
 ghost use Rattle.capi.specs.Log.{logAnswer};
+ghost use Rattle.capi.specs.Panel.{panelAnswer, panelTells};
 ghost use Rattle.capi.specs.Port.{PortCalled};
 ghost use Rattle.capi.specs.Restore.{restoreAnswer, restoreTells};
 
@@ -73,6 +75,25 @@ pub extern "C" fn egrivundo_port(
         return 0;
     }
     0
+}
+
+// The panel call: changes one value by the numbers of its module and of its row, both counted from 0; `told` becomes the length of what is told of it.
+#[no_mangle]
+pub extern "C" fn egrivundo_panel(
+    table: &[u8],
+    values: &mut [i64],
+    owner: u64,
+    row: u64,
+    value: i64,
+    reply: &mut [u8],
+    told: &mut [u64; 1],
+) -> u8
+    ensures { λ r. ⌜ panelTells r (now (told .exit)) (now (values .exit)) (now (reply .exit)) ≡ panelAnswer (roomOf (now (table .entry))) (now (values .entry)) (now (reply .entry)) owner row value ⌝ }
+{
+    let changed = change(table, values, owner as usize, row as usize, value, reply);
+    let length = changed.sent as u64;
+    *told = [length];
+    changed.number
 }
 
 // The restore call: `told` becomes the bytes and the lines of the list.

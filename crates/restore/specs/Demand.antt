@@ -24,7 +24,8 @@ use Rattle.wish.specs.Target.{Wish, target, differing}
 use Rattle.wish.specs.Listing.{Admitted, Told, restore}
 use Rattle.restore.specs.declared.Restored.{Restored}
 
--- played with a reply buffer of `replyRooms n` bytes for call n, it leaves chosen modules as wanted and every other parameter as it was
+-- played with a reply buffer of `replyRooms n` bytes for call n, it leaves chosen modules as wanted and every other parameter as it was. Nothing else writes the values while it is
+-- played: the list is for a room where no knob of a wall panel turns meanwhile
 pub record Fulfils (w : Wish) (replyRooms : ℕ → ℕ) (bs : List ℕ) : Type 0 where
   pub served : play (w .room) replyRooms (w .present) bs .refused ≡ false
   pub reached : play (w .room) replyRooms (w .present) bs .state ≡ target w

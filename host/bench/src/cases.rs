@@ -16,6 +16,7 @@ pub struct Case {
     reply: [u8; 64],
     list: Vec<u8>,
     fed: [u64; 4],
+    noticed: [u64; 1],
     listed: [u64; 2],
     part: [u64; 3],
     /// What the call must tell: its numbers, and how the reply begins.
@@ -26,6 +27,10 @@ enum Work {
     Table,
     Port {
         given: Vec<u8>,
+    },
+    /// A panel change, of the last module.
+    Panel {
+        marked: bool,
     },
     Restore {
         selection: Vec<u8>,
@@ -39,6 +44,7 @@ enum Work {
 enum Expected {
     Nothing,
     Reply(&'static [u8]),
+    Notice(&'static [u8]),
     Lines(u64),
     InTable(u64),
 }
@@ -67,6 +73,9 @@ fn of_room(room: Room) -> Vec<Case> {
     let part = get[..get.len() - 2].to_vec();
     works.push(("port-unknown".to_string(), port(unknown, b"\x1501\r")));
     works.push(("port-part".to_string(), port(part, b"")));
+    let panel = |marked, notice| (Work::Panel { marked }, Expected::Notice(notice));
+    works.push(("panel-silent".to_string(), panel(false, b"")));
+    works.push(("panel-notice".to_string(), panel(true, b"GA\"#")));
     let mut one = vec![0; room.modules];
     one[0] = 1;
     let none = vec![0; room.modules];
@@ -99,6 +108,7 @@ fn of_room(room: Room) -> Vec<Case> {
             reply: [0; 64],
             list: vec![0; room.values.len() * 51],
             fed: [0; 4],
+            noticed: [0; 1],
             listed: [0; 2],
             part: [0; 3],
             expected,
@@ -123,6 +133,21 @@ impl Case {
                     &mut self.fed,
                 )
             }
+            Work::Panel { marked } => {
+                // Each call finds the value as it was, and so changes it.
+                let place = room.values.len() - room.last + room.row;
+                self.values[place] = room.values[place];
+                let table = if *marked { &room.marked } else { &room.table };
+                (calls.panel)(
+                    table,
+                    &mut self.values,
+                    room.modules as u64 - 1,
+                    room.row as u64,
+                    room.wanted[place],
+                    &mut self.reply,
+                    &mut self.noticed,
+                )
+            }
             Work::Restore { selection, wanted } => (calls.restore)(
                 &room.table,
                 &room.values,
@@ -145,13 +170,18 @@ impl Case {
         assert_eq!(answer, 0, "{}: refused", self.name);
         let right = match self.expected {
             Expected::Nothing => true,
-            Expected::Reply(begin) => {
-                let reply = &self.reply[..self.fed[1] as usize];
-                reply.starts_with(begin) && reply.is_empty() == begin.is_empty()
-            }
+            Expected::Reply(begin) => self.begins(self.fed[1], begin),
+            Expected::Notice(begin) => self.begins(self.noticed[0], begin),
             Expected::Lines(lines) => self.listed[1] == lines,
             Expected::InTable(found) => self.part[0] == found,
         };
         assert!(right, "{}: another answer than expected", self.name);
+    }
+
+    /// Whether a reply of this length begins so, and is empty where it should
+    /// be.
+    fn begins(&self, length: u64, begin: &[u8]) -> bool {
+        let reply = &self.reply[..length as usize];
+        reply.starts_with(begin) && reply.is_empty() == begin.is_empty()
     }
 }

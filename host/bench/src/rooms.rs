@@ -1,10 +1,13 @@
 //! Rooms of several sizes, without mixers and with them.
 
+use reference::catalogue::Kind;
 use reference::layout::Layout;
 
 pub struct Room {
     pub name: &'static str,
     pub table: Vec<u8>,
+    /// The same with a `#` as the first byte of the last module's label.
+    pub marked: Vec<u8>,
     pub values: Vec<i64>,
     /// Every settable value differs from the room's.
     pub wanted: Vec<i64>,
@@ -14,9 +17,13 @@ pub struct Room {
     pub modules: usize,
     /// Values of the first module.
     pub first: usize,
+    /// Values of the last module.
+    pub last: usize,
     /// The label of the last module, and what is asked of it.
     pub label: Vec<u8>,
     pub asks: &'static [Ask],
+    /// What a panel changes: the last level of the last module, or its last row.
+    pub row: usize,
 }
 
 /// An index part and a text for it, and what they are called.
@@ -100,14 +107,22 @@ fn room(
         }
     }
     let (last, label) = &modules[modules.len() - 1];
+    let mut marked = table.clone();
+    let record = marked.len() - self::record(*last, label).len();
+    marked[record + 1] = b'#';
+    let rows: Vec<_> = last.rows().collect();
+    let level = rows.iter().rposition(|row| row.kind == Kind::Level);
     Room {
         name,
         few: (last.outputs > 1).then(|| few(*last, &values)),
         table,
+        marked,
+        row: level.unwrap_or(rows.len() - 1),
         values,
         wanted,
         modules: modules.len(),
         first: modules[0].0.count(),
+        last: last.count(),
         label: label.clone().into_bytes(),
         asks,
     }

@@ -4,6 +4,8 @@ mod fault;
 mod line;
 mod log;
 mod mixer;
+mod notice;
+mod panel;
 mod port;
 mod restore;
 mod route;
@@ -21,7 +23,7 @@ pub type Mistake = (
 );
 
 /// All of them, part by part.
-pub const MISTAKES: [&[Mistake]; 9] = [
+pub const MISTAKES: [&[Mistake]; 11] = [
     values::MISTAKES,
     table::MISTAKES,
     line::MISTAKES,
@@ -31,4 +33,6 @@ pub const MISTAKES: [&[Mistake]; 9] = [
     log::MISTAKES,
     mixer::MISTAKES,
     route::MISTAKES,
+    panel::MISTAKES,
+    notice::MISTAKES,
 ];

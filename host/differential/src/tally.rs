@@ -7,6 +7,7 @@ pub struct Tally {
     pub scenarios: u64,
     pub cases: u64,
     pub played: u64,
+    pub asked: u64,
     rows: Vec<(&'static str, String, u64)>,
 }
 
@@ -40,6 +41,7 @@ impl fmt::Display for Tally {
             }
             write!(out, "  {}: {}", row.1, row.2)?;
         }
-        write!(out, "\n  lists played to their end: {}", self.played)
+        write!(out, "\n  lists played to their end: {}", self.played)?;
+        write!(out, "\n  notices asked for by a line: {}", self.asked)
     }
 }

@@ -37,12 +37,14 @@ fn main() {
     for (call, answers) in [
         ("table", "0 1"),
         ("port", "0 1 2 3 4"),
+        ("panel", "0 1 2 3 9"),
         ("restore", "0 1 2 5 6 7 8"),
         ("log", "0 1"),
         ("reply", "ACK GA 01 02 03 99"),
         ("cause", "0 1 2 3 4 5"),
         ("told", "value word pair"),
         ("said", "value word pair"),
+        ("notice", "none value word"),
     ] {
         let row = text.lines().find(|line| line.trim().starts_with(call));
         for answer in answers.split(' ') {

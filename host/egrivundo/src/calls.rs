@@ -34,6 +34,19 @@ extern "C" {
         told: *mut [u64; 4],
     ) -> u8;
 
+    fn egrivundo_panel(
+        table: *const u8,
+        table_count: usize,
+        values: *mut i64,
+        values_count: usize,
+        owner: u64,
+        row: u64,
+        value: i64,
+        reply: *mut u8,
+        reply_count: usize,
+        told: *mut [u64; 1],
+    ) -> u8;
+
     fn egrivundo_restore(
         table: *const u8,
         table_count: usize,
@@ -141,6 +154,48 @@ pub fn port(
             port,
             given.as_ptr(),
             given.len(),
+            reply.as_mut_ptr(),
+            reply.len(),
+            told,
+        )
+    }
+}
+
+/// One change at a wall panel: sets the value of a module's row, both counted
+/// from 0. `told` becomes the length of what is put at the reply's start: the
+/// answer to a get line where the module's label begins with `#` and its value
+/// did change, else 0, with no byte of the reply written.
+///
+/// ```
+/// let mut table = [0; 33];
+/// table[..3].copy_from_slice(b"\x02#S");
+/// let mut values = [0];
+/// let mut reply = [0; 64];
+/// let mut told = [9];
+/// let answer = egrivundo::calls::panel(&table, &mut values, 0, 0, 1, &mut reply, &mut told);
+/// assert_eq!((answer, told, values), (0, [11], [1]));
+/// assert_eq!(&reply[..11], b"GA\"#S\">1=O\r");
+/// ```
+#[inline]
+#[must_use = "0 is accepted, any other number refused"]
+pub fn panel(
+    table: &[u8],
+    values: &mut [i64],
+    owner: u64,
+    row: u64,
+    value: i64,
+    reply: &mut [u8],
+    told: &mut [u64; 1],
+) -> u8 {
+    unsafe {
+        egrivundo_panel(
+            table.as_ptr(),
+            table.len(),
+            values.as_mut_ptr(),
+            values.len(),
+            owner,
+            row,
+            value,
             reply.as_mut_ptr(),
             reply.len(),
             told,

@@ -1,6 +1,6 @@
 //! A safe interface to the proved control core of a viewing room's sound box.
 //!
-//! [`calls`] has the four functions of the archive over slices and blocks of
+//! [`calls`] has the five functions of the archive over slices and blocks of
 //! fixed size. [`Room`], [`Port`] and [`List`] stand above them.
 //!
 //! ```

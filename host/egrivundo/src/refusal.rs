@@ -23,7 +23,8 @@ pub enum Refusal {
     Reach = 7,
     /// The list buffer is too short.
     List = 8,
-    /// There is no such module or row.
+    /// There is no such module or row; of a panel change also: the row is
+    /// read-only, or does not permit the value.
     Row = 9,
 }
 

@@ -2,9 +2,10 @@ use std::fmt;
 
 use crate::{Fault, Port};
 
-/// The reply of one port call; empty where no line was finished.
+/// The reply of one port call, empty where no line was finished; or what is
+/// told of a panel change, empty where nothing is.
 #[derive(Clone)]
-#[must_use = "a reply tells whether the line was taken"]
+#[must_use = "a reply is to be sent, and tells whether a line was taken"]
 pub struct Reply {
     pub(crate) buffer: [u8; Port::REPLY],
     pub(crate) length: usize,
@@ -12,6 +13,14 @@ pub struct Reply {
 }
 
 impl Reply {
+    pub(crate) fn empty() -> Reply {
+        Reply {
+            buffer: [0; Port::REPLY],
+            length: 0,
+            fault: None,
+        }
+    }
+
     /// The bytes to send. A get line is answered in the form asked, with the
     /// value as a restore list has it: whole decibels have no point.
     pub fn bytes(&self) -> &[u8] {

@@ -30,6 +30,11 @@ impl Control {
         Some((place, Control { row, output }))
     }
 
+    /// A whole parameter.
+    pub fn whole(row: &'static Row) -> Control {
+        Control { row, output: None }
+    }
+
     /// By what a list says a change: a word in which one output differs by its
     /// cross-point, which is shorter.
     pub fn of_change(row: &'static Row, present: i64, wanted: i64) -> Control {

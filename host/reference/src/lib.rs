@@ -1,6 +1,6 @@
 //! The paper once more, in plain safe Rust.
 //!
-//! The four functions here take the same arguments as the C functions of the
+//! The five functions here take the same arguments as the C functions of the
 //! archive, as slices and blocks of fixed size, and answer with the same
 //! numbers, so that the two can be compared byte for byte. Nothing here
 //! allocates.
@@ -13,6 +13,7 @@ pub mod layout;
 mod line;
 mod log;
 mod mixer;
+mod panel;
 mod port;
 mod restore;
 mod table;
@@ -50,6 +51,20 @@ pub fn port(
     told: &mut [u64; 4],
 ) -> u8 {
     tell(told, port::call(table, values, port, given, reply))
+}
+
+/// One change at a wall panel, by module and row number, both from 0. `told`
+/// becomes the length of the notice, 0 for none.
+pub fn panel(
+    table: &[u8],
+    values: &mut [i64],
+    owner: u64,
+    row: u64,
+    value: i64,
+    reply: &mut [u8],
+    told: &mut [u64; 1],
+) -> u8 {
+    tell(told, panel::call(table, values, owner, row, value, reply))
 }
 
 /// The restore list. `told` becomes bytes and lines.

@@ -1,6 +1,5 @@
 -- That the get line of a parameter asks for it, and is answered with its value.
 use mathlib.Core.Path.{_≡_, refl, _∙_, ap}
-use mathlib.Core.Bool.{true}
 use mathlib.Core.List.{List, _∷_, _++_}
 use Prim.Native.Nat.{ℕ, _+_, _≤_}
 use native.Mathlib.Omega.{arith}
@@ -26,7 +25,6 @@ use Rattle.spelling.specs.Reply.{getReply}
 use Rattle.line.specs.Answer.{act, answer}
 use Rattle.line.specs.Answer.Laws.{answered}
 use Rattle.line.specs.Asked.{getLine}
-use Rattle.line.specs.Meaning.{meaning}
 use Rattle.line.specs.Meaning.Laws.{Gets, gets-back}
 use Rattle.line.specs.Said.Naming.{Reached, held-short, no-return, reached-indices, reached-part}
 use Rattle.line.specs.declared.fault.Fault.the-variants.{Nothing}

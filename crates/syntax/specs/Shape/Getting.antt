@@ -10,7 +10,6 @@ use lib.ListN.{length, getD, length-append}
 use Rattle.text.specs.Cut.{indexOf, part}
 use Rattle.text.specs.Cut.From.{from-joined}
 use Rattle.text.specs.Cut.Part.{part-last, part-middle}
-use Rattle.room.specs.Label.{same}
 use Rattle.room.specs.Label.Match.{same-not, same-refl}
 use Rattle.syntax.specs.Shape.{lineLimit, isSet, isGet, opening, closing, getShape, quoted, shape}
 use Rattle.syntax.specs.declared.shape.Shape.the-variants.{Get}

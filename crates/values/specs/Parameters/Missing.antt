@@ -13,7 +13,6 @@ use Rattle.room.specs.declared.table.ModuleFound.the-variants as table
 use Rattle.values.specs.Parameters.{byRow, parameterAt, parametersOf, rowAt}
 use Rattle.values.specs.Parameters.Laws.{length-parametersOf}
 use Rattle.values.specs.declared.parameter.Parameter.{Parameter}
-use Rattle.values.specs.declared.parameter.ParameterFound.{ParameterFound}
 use Rattle.values.specs.declared.parameter.ParameterFound.the-variants.{At, Nothing}
 
 -- no module has the number, or the one that has it has no such row

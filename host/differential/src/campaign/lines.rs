@@ -1,12 +1,13 @@
 //! Lines on a port.
 
-use super::room_for_reply;
+use super::{panel, room_for_reply};
 use crate::compare::{Compare, Difference, Sides};
 use crate::grammar;
 use crate::rng::Rng;
 use crate::rooms;
 
-/// Feeds a stream of lines in pieces.
+/// Feeds a stream of lines in pieces, with knobs turned between them now and
+/// then.
 pub fn feed(
     rng: &mut Rng,
     compare: &mut Compare,
@@ -44,6 +45,9 @@ pub fn feed(
             0 => rng.below(4),
             _ => rng.below(90),
         };
+        if rng.once_in(16) {
+            panel::turn_one(rng, compare, room, &mut sides)?;
+        }
         let piece = &rest[..length.min(rest.len())];
         let reply = room_for_reply(rng);
         match compare.port(rng, &room.table, &mut sides, piece, reply)? {

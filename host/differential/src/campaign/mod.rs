@@ -1,6 +1,7 @@
 //! Scenario after scenario, until enough cases or a difference.
 
 mod lines;
+mod panel;
 mod wish;
 
 use std::panic::{catch_unwind, AssertUnwindSafe};
@@ -32,7 +33,7 @@ pub fn run(left: &Calls, right: &Calls, settings: Settings) -> Report {
     Report::new(compare.tally, scenario, Ok(Ok(())))
 }
 
-/// One scenario: a room, some log calls, lines on a port, some wishes.
+/// One scenario: a room, some log calls, lines on a port, knobs, some wishes.
 fn play(rng: &mut Rng, compare: &mut Compare) -> Result<(), Difference> {
     let mut room = rooms::room(rng);
     if rng.once_in(6) {
@@ -52,6 +53,7 @@ fn play(rng: &mut Rng, compare: &mut Compare) -> Result<(), Difference> {
         compare.log(rng, &room.table, &line)?;
     }
     lines::feed(rng, compare, &room, &values)?;
+    panel::turn(rng, compare, &room, &values)?;
     for _ in 0..2 {
         wish::ask(rng, compare, &room, &values)?;
     }

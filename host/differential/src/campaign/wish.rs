@@ -85,7 +85,7 @@ fn play(
 fn fulfilled(table: &[u8], present: &[i64], selection: &[u8], wanted: &[i64]) -> Vec<i64> {
     let mut expected = present.to_vec();
     let mut start = 0;
-    for (layout, chosen) in rooms::layouts(table).iter().zip(selection) {
+    for ((layout, _), chosen) in rooms::records(table).iter().zip(selection) {
         let end = start + layout.count();
         if *chosen == 1 {
             expected[start..end].copy_from_slice(&wanted[start..end]);

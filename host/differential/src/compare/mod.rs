@@ -17,6 +17,7 @@ macro_rules! ensure {
     };
 }
 
+mod panel;
 mod port;
 mod restore;
 mod table;
@@ -103,6 +104,7 @@ fn number(answer: u8) -> &'static str {
         6 => "6",
         7 => "7",
         8 => "8",
+        9 => "9",
         _ => "unknown",
     }
 }

@@ -1,10 +1,12 @@
 //! Random tables, values, wishes and ports, right and wrong.
 
+mod knob;
 mod port;
 mod spoil;
 mod value;
 mod wish;
 
+pub use knob::{knob, Knob};
 pub use port::port;
 pub use spoil::{spoil_table, spoil_values};
 pub use value::{differing, permitted, spoiled};
@@ -96,8 +98,20 @@ pub fn record(layout: Layout, label: &[u8]) -> Vec<u8> {
     record
 }
 
-/// A label: simple, random, or of all 32 bytes.
+/// A label: simple, random, or of all 32 bytes; often with a `#` before it,
+/// and seldom with one in another place.
 fn label(rng: &mut Rng) -> Vec<u8> {
+    let mut label = unmarked(rng);
+    match rng.below(12) {
+        0 => label.insert(rng.below(label.len() + 1), b'#'),
+        1..6 => label.insert(0, b'#'),
+        _ => {}
+    }
+    label.truncate(32);
+    label
+}
+
+fn unmarked(rng: &mut Rng) -> Vec<u8> {
     let length = match rng.below(8) {
         0..3 => return rng.pick(&SIMPLE).to_vec(),
         3 => 32,
@@ -119,17 +133,18 @@ fn label(rng: &mut Rng) -> Vec<u8> {
     (0..length).map(|_| byte(rng)).collect()
 }
 
-/// The layouts that a sound table has, which may have been spoiled.
-pub fn layouts(table: &[u8]) -> Vec<Layout> {
-    let mut layouts = Vec::new();
+/// The records of a sound table with their layouts; it may have been spoiled.
+pub fn records(table: &[u8]) -> Vec<(Layout, &[u8])> {
+    let mut records = Vec::new();
     let mut rest = table;
     while let Some(&kind) = rest.first() {
         let (layout, length) = match kind {
             7 => (Layout::mixer(rest[33], rest[34]), 35),
             _ => (Layout::of(kind), 33),
         };
-        layouts.push(layout);
-        rest = &rest[length..];
+        let (record, others) = rest.split_at(length);
+        records.push((layout, record));
+        rest = others;
     }
-    layouts
+    records
 }

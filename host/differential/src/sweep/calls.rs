@@ -1,4 +1,4 @@
-//! The four calls: tables, ports, logs, and each value.
+//! Tables, ports, logs, and each value.
 
 use super::{fixed, index, line, module, FRESH};
 use crate::compare::{Compare, Difference, Sides, USUAL};

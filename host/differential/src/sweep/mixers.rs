@@ -75,7 +75,7 @@ pub fn lists(compare: &mut Compare) -> Result<(), Difference> {
 }
 
 /// The words of one and of two bits among the highest.
-fn masks(outputs: u8) -> impl Iterator<Item = i64> {
+pub fn masks(outputs: u8) -> impl Iterator<Item = i64> {
     let bit = |output: u8| 1i64 << (32 - output);
     (1..=outputs).flat_map(move |one| (one..=outputs).map(move |other| bit(one) | bit(other)))
 }

@@ -4,6 +4,7 @@ mod calls;
 mod lines;
 mod mixers;
 mod pairs;
+mod panels;
 
 use std::panic::{catch_unwind, AssertUnwindSafe};
 
@@ -24,6 +25,10 @@ pub fn sweep(left: &Calls, right: &Calls) -> Report {
     let played = catch_unwind(AssertUnwindSafe(|| {
         calls::tables(&mut compare)?;
         mixers::tables(&mut compare)?;
+        panels::refusals(&mut compare)?;
+        panels::numbers(&mut compare)?;
+        panels::labels(&mut compare)?;
+        panels::words(&mut compare)?;
         calls::ports(&mut compare)?;
         lines::indices(&mut compare)?;
         pairs::forms(&mut compare)?;
@@ -33,6 +38,7 @@ pub fn sweep(left: &Calls, right: &Calls) -> Report {
         lines::texts(&mut compare)?;
         mixers::words(&mut compare)?;
         mixers::lists(&mut compare)?;
+        panels::values(&mut compare)?;
         calls::values(&mut compare)
     }));
     compare.tally.scenarios += 1;

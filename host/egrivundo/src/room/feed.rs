@@ -17,11 +17,7 @@ impl Room {
     /// Gives bytes to a port. One call serves at most one line: give what is
     /// left until all is consumed.
     pub fn feed(&mut self, port: &mut Port, given: &[u8]) -> Result<Fed, Refusal> {
-        let mut reply = Reply {
-            buffer: [0; Port::REPLY],
-            length: 0,
-            fault: None,
-        };
+        let mut reply = Reply::empty();
         let mut told = [0; 4];
         Refusal::check(calls::port(
             &self.table,

@@ -1,6 +1,7 @@
 use crate::{calls, rows, Port, Refusal, Type};
 
 mod feed;
+mod panel;
 mod restore;
 
 pub use feed::Fed;

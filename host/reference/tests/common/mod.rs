@@ -38,6 +38,9 @@ pub struct Room {
     pub fault: [u64; 2],
 }
 
+/// The notice of an accepted panel change, empty for none, or the refusal.
+pub type Turned = Result<Vec<u8>, u8>;
+
 /// Consumed bytes and the reply of an accepted call, or the refusal.
 pub type Fed = Result<(usize, Vec<u8>), u8>;
 
@@ -101,6 +104,35 @@ impl Room {
         assert_eq!(consumed, line.len() + 1);
         assert_eq!(self.port[..2], [0, 0]);
         reply
+    }
+
+    /// A panel change with so many bytes for the notice.
+    pub fn panel_into(&mut self, room: usize, owner: u64, row: u64, value: i64) -> Turned {
+        let before = self.values.clone();
+        let mut reply = vec![0xEE; room];
+        let mut told = [9];
+        let answer = reference::panel(
+            &self.table,
+            &mut self.values,
+            owner,
+            row,
+            value,
+            &mut reply,
+            &mut told,
+        );
+        let (notice, rest) = reply.split_at(told[0] as usize);
+        assert!(rest.iter().all(|&byte| byte == 0xEE));
+        if answer != 0 {
+            assert_eq!(told, [0]);
+            assert_eq!(self.values, before);
+            return Err(answer);
+        }
+        Ok(notice.to_vec())
+    }
+
+    /// A panel change with a usual buffer.
+    pub fn panel(&mut self, owner: u64, row: u64, value: i64) -> Turned {
+        self.panel_into(64, owner, row, value)
     }
 
     pub fn restore(

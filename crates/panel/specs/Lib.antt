@@ -1,0 +1,3 @@
+-- A change at a wall panel, and what is told of it.
+pub mod Panel
+pub mod Worked
