@@ -33,9 +33,9 @@ extern "C" {
 
 /* The version. Another major or minor number may have other calls, or other
  * parameters in the same calls; the shared library's soname has both. */
-#define EGRIVUNDO_VERSION "0.4.0"
+#define EGRIVUNDO_VERSION "0.5.0"
 #define EGRIVUNDO_VERSION_MAJOR 0
-#define EGRIVUNDO_VERSION_MINOR 4
+#define EGRIVUNDO_VERSION_MINOR 5
 #define EGRIVUNDO_VERSION_PATCH 0
 
 /* Limits. */

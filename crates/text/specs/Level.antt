@@ -1,8 +1,10 @@
 -- Level texts, in tenths of a dB: how one is read, from the left, and how one is written.
 pub mod Examples
+pub mod From
 pub mod Laws
 pub mod Length
 pub mod Measuring
+pub mod Passed
 pub mod Reading
 pub mod Sign
 pub mod Told

@@ -1,4 +1,4 @@
-// Level texts: read from the left, where each state of the grammar is a function of what is left of the text; measured; and written into a lent buffer.
+// Level texts: read byte by byte from the left, measured, and written into a lent buffer.
 use crate::digit::digit_of;
 use crate::digit::is_digit;
 use crate::number::number_length;
@@ -7,10 +7,12 @@ use crate::sign::magnitude;
 use crate::sign::with_sign;
 use crate::written::put_byte;
 ghost use mathlib.Core.Path.{_≡_};
+ghost use mathlib.Core.List.{[]};
 ghost use Prim.Native.Nat.{_+_, _<_, _≤_};
 ghost use lib.ListN.{length};
 ghost use Rattle.text.specs.Written.{Wrote};
 ghost use Rattle.text.specs.Level.{levelMore, levelPoint, levelTenth, levelText, levelWhole, readLevel, shortTenthText, signText, tenthText, wholeText};
+ghost use Rattle.text.specs.Level.From.{ReadOn, Small, levelFrom};
 
 // What a level text says, in tenths of a dB, or that it is none.
 pub enum Level {
@@ -18,75 +20,116 @@ pub enum Level {
     Wrong,
 }
 
-// Behind the point: exactly one digit.
-fn read_tenth(minus: bool, whole: u64, s: &[u8]) -> Level
+// A level text as far as it is read: the number is what the digits say, and the flag tells whether a `-` stands before them.
+enum Reading {
+    Start,
+    Sign,
+    Digit(bool, u64),
+    Digits(bool, u64),
+    Point(bool, u64),
+    Tenth(bool, u64),
+    Wrong,
+}
+
+// Behind the point: a digit.
+fn read_tenth(minus: bool, whole: u64, b: u8) -> Reading
     requires { ⌜ whole < 100 ⌝ }
-    ensures { λ r. ⌜ r ≡ levelTenth minus whole (now (s .entry)) ⌝ }
+    ensures { λ r. ⌜ ReadOn (levelTenth minus whole) b r ⌝ }
 {
-    if s.len() != 1 {
-        return Level::Wrong;
-    }
-    let b = s[0];
     if is_digit(b) {
-        return Level::Tenths(with_sign(minus, whole * 10 + digit_of(b)));
+        return Reading::Tenth(minus, whole * 10 + digit_of(b));
     }
-    Level::Wrong
+    Reading::Wrong
 }
 
-// Behind the whole part: the end, or a point.
-fn read_point(minus: bool, whole: u64, s: &[u8]) -> Level
+// Behind the second digit: a point.
+fn read_point(minus: bool, whole: u64, b: u8) -> Reading
     requires { ⌜ whole < 100 ⌝ }
-    ensures { λ r. ⌜ r ≡ levelPoint minus whole (now (s .entry)) ⌝ }
+    ensures { λ r. ⌜ ReadOn (levelPoint minus whole) b r ⌝ }
 {
-    if s.len() == 0 {
-        return Level::Tenths(with_sign(minus, whole * 10));
+    if b == b'.' {
+        return Reading::Point(minus, whole);
     }
-    if s[0] == b'.' {
-        return read_tenth(minus, whole, &s[1..]);
-    }
-    Level::Wrong
+    Reading::Wrong
 }
 
-// Behind the first digit: a second one, or what follows the whole part.
-fn read_more(minus: bool, whole: u64, s: &[u8]) -> Level
+// Behind the first digit: a second one, or a point.
+fn read_second(minus: bool, whole: u64, b: u8) -> Reading
     requires { ⌜ whole < 10 ⌝ }
-    ensures { λ r. ⌜ r ≡ levelMore minus whole (now (s .entry)) ⌝ }
+    ensures { λ r. ⌜ ReadOn (levelMore minus whole) b r ⌝ }
 {
-    if s.len() == 0 {
-        return read_point(minus, whole, s);
-    }
-    let b = s[0];
     if is_digit(b) {
-        return read_point(minus, whole * 10 + digit_of(b), &s[1..]);
+        return Reading::Digits(minus, whole * 10 + digit_of(b));
     }
-    read_point(minus, whole, s)
+    read_point(minus, whole, b)
 }
 
 // Behind the sign: a digit.
-fn read_whole(minus: bool, s: &[u8]) -> Level
-    ensures { λ r. ⌜ r ≡ levelWhole minus (now (s .entry)) ⌝ }
+fn read_first(minus: bool, b: u8) -> Reading
+    ensures { λ r. ⌜ ReadOn (levelWhole minus) b r ⌝ }
 {
-    if s.len() == 0 {
-        return Level::Wrong;
-    }
-    let b = s[0];
     if is_digit(b) {
-        return read_more(minus, digit_of(b), &s[1..]);
+        return Reading::Digit(minus, digit_of(b));
     }
-    Level::Wrong
+    Reading::Wrong
+}
+
+// At the start: a `-`, or a digit.
+fn read_start(b: u8) -> Reading
+    ensures { λ r. ⌜ ReadOn readLevel b r ⌝ }
+{
+    if b == b'-' {
+        return Reading::Sign;
+    }
+    read_first(false, b)
+}
+
+// One byte more.
+fn read_byte(reading: Reading, b: u8) -> Reading
+    requires { ⌜ Small reading ⌝ }
+    ensures { λ r. ⌜ ReadOn (levelFrom reading) b r ⌝ }
+{
+    match reading {
+        Reading::Start => read_start(b),
+        Reading::Sign => read_first(true, b),
+        Reading::Digit(minus, whole) => read_second(minus, whole, b),
+        Reading::Digits(minus, whole) => read_point(minus, whole, b),
+        Reading::Point(minus, whole) => read_tenth(minus, whole, b),
+        Reading::Tenth(_, _) => Reading::Wrong,
+        Reading::Wrong => Reading::Wrong,
+    }
+}
+
+// The level that is read where the text ends.
+fn read_end(reading: Reading) -> Level
+    requires { ⌜ Small reading ⌝ }
+    ensures { λ r. ⌜ r ≡ levelFrom reading [] ⌝ }
+{
+    match reading {
+        Reading::Start => Level::Wrong,
+        Reading::Sign => Level::Wrong,
+        Reading::Digit(minus, whole) => Level::Tenths(with_sign(minus, whole * 10)),
+        Reading::Digits(minus, whole) => Level::Tenths(with_sign(minus, whole * 10)),
+        Reading::Point(_, _) => Level::Wrong,
+        Reading::Tenth(minus, tenths) => Level::Tenths(with_sign(minus, tenths)),
+        Reading::Wrong => Level::Wrong,
+    }
 }
 
 // The level that `s` says: perhaps a `-`, then one or two digits, then perhaps a point and one digit more.
 pub fn read_level(s: &[u8]) -> Level
     ensures { λ r. ⌜ r ≡ readLevel (now (s .entry)) ⌝ }
 {
-    if s.len() == 0 {
-        return Level::Wrong;
+    let mut reading = Reading::Start;
+    let mut i = 0;
+    while i < s.len() {
+        reading = read_byte(reading, s[i]);
+        if let Reading::Wrong = reading {
+            return Level::Wrong;
+        }
+        i += 1;
     }
-    if s[0] == b'-' {
-        return read_whole(true, &s[1..]);
-    }
-    read_whole(false, s)
+    read_end(reading)
 }
 
 // How long the sign of `v` is.

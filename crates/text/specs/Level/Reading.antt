@@ -1,20 +1,18 @@
--- How a level is read: a rule for each return of each state's function, and for the room that the numbers have.
+-- How a byte of a level text is read: a rule for each return of each state's function, and for the room that the numbers have.
 use mathlib.Core.Path.{_≡_, refl, sym, _∙_}
 use mathlib.Core.Bool.{Bool, true, false}
 use mathlib.Core.List.{List, [], _∷_}
-use Prim.Native.Nat.{ℕ, suc, _+_, _-_, _*_, _<_}
+use Prim.Native.Nat.{ℕ, _+_, _-_, _*_, _<_}
 use native.Mathlib.Omega.{arith}
 use borrow.Author.Tests.{eq-eqb, ne-eqb}
-use lib.IntN.{ℤ}
-use lib.ListN.{length, getD, take, drop}
-use lib.Seq.{take-all}
 use mir.Syntax.{w64}
 use mir.Val.{Fits}
 use Rattle.text.specs.Digits.{isDigit}
 use Rattle.text.specs.Digits.Laws.{digit-range, flag-told}
-use Rattle.text.specs.Level.{signed, levelTenth, levelPoint, levelMore, levelWhole, readLevel}
-use Rattle.text.specs.declared.level.Level.{Level}
-use Rattle.text.specs.declared.level.Level.the-variants.{Tenths, Wrong}
+use Rattle.text.specs.Level.{levelTenth, levelPoint, levelMore, levelWhole, readLevel}
+use Rattle.text.specs.Level.From.{levelEnd, levelFrom, Small, ReadOn, on}
+use Rattle.text.specs.declared.level.Reading.{Reading}
+use Rattle.text.specs.declared.level.Reading.the-variants as reading
 
 -- ---- the numbers
 
@@ -35,100 +33,123 @@ thousand-fits n h = record { fits = omega arith }
 pub hundred-fits : (n : ℕ) → n < 100 → Fits w64 n
 hundred-fits n h = record { fits = omega arith }
 
--- ---- the states
+pub below-hundred : (n : ℕ) → n < 10 → n < 100
+below-hundred n h = omega arith
 
-rest : (s : List ℕ) → take (suc (length s) - 1) s ≡ s
-rest s = take-all (suc (length s) - 1) s (omega arith)
+-- ---- behind the point
 
-pub tenth-none : (minus : Bool) (w : ℕ) (s : List ℕ) → (length s ≡ 1 → ⊥) → Wrong ≡ levelTenth minus w s
-unfolding levelTenth
-tenth-none minus w [] h = refl
-tenth-none minus w (b ∷ []) h = absurd (h refl)
-tenth-none minus w (b ∷ c ∷ s) h = refl
+module _ (minus : Bool) (w b : ℕ) (t : Bool) (e : t ≡ isDigit b) where
+  pub tenth-read : (d : ℕ) → w < 100 → t ≡ true → d ≡ b - 48 → ReadOn (levelTenth minus w) b (reading.Tenth minus (w * 10 + d))
+  unfolding levelTenth levelFrom levelEnd
+  tenth-read d h y q = on (more-below-thousand w b d t e y q h) go
+    where
+      go : (s : List ℕ) → levelTenth minus w (b ∷ s) ≡ levelFrom (reading.Tenth minus (w * 10 + d)) s
+      go [] = rw (← e, y, q)
+      go (c ∷ s) = refl
 
-pub tenth-wrong : (minus : Bool) (w : ℕ) (s : List ℕ) (t : Bool) → length s ≡ 1 → t ≡ isDigit (getD s 0 0) → t ≡ false → Wrong ≡ levelTenth minus w s
-unfolding levelTenth
-tenth-wrong minus w [] t h e y = absurd (omega arith)
-tenth-wrong minus w (b ∷ []) t h e y = rw (← e, y)
-tenth-wrong minus w (b ∷ c ∷ s) t h e y = absurd (omega arith)
+  pub tenth-wrong : t ≡ false → ReadOn (levelTenth minus w) b reading.Wrong
+  unfolding levelTenth levelFrom
+  tenth-wrong y = on tt go
+    where
+      go : (s : List ℕ) → levelTenth minus w (b ∷ s) ≡ levelFrom reading.Wrong s
+      go [] = rw (← e, y)
+      go (c ∷ s) = refl
 
-pub tenth-read : (minus : Bool) (w d : ℕ) (s : List ℕ) (t : Bool) (v : ℤ) → length s ≡ 1 → t ≡ isDigit (getD s 0 0) → t ≡ true → d ≡ getD s 0 0 - 48
-    → v ≡ signed minus (w * 10 + d) → Tenths v ≡ levelTenth minus w s
-unfolding levelTenth
-tenth-read minus w d [] t v h e y q r = absurd (omega arith)
-tenth-read minus w d (b ∷ []) t v h e y q r = rw (← e, y, r, q)
-tenth-read minus w d (b ∷ c ∷ s) t v h e y q r = absurd (omega arith)
+pub ruleset tenth-rules = (flag-told, thousand-fits, more-below-thousand, tenth-read, tenth-wrong)
 
-pub point-end : (minus : Bool) (w : ℕ) (s : List ℕ) (v : ℤ) → length s ≡ 0 → v ≡ signed minus (w * 10) → Tenths v ≡ levelPoint minus w s
-unfolding levelPoint
-point-end minus w [] v h r = rw r
-point-end minus w (b ∷ s) v h r = absurd (omega arith)
+-- ---- behind the second digit
 
-pub point-wrong : (minus : Bool) (w : ℕ) (s : List ℕ) → (length s ≡ 0 → ⊥) → (getD s 0 0 ≡ 46 → ⊥) → Wrong ≡ levelPoint minus w s
-unfolding levelPoint
-point-wrong minus w [] h e = absurd (h refl)
-point-wrong minus w (b ∷ s) h e = rw (ne-eqb b 46 e)
+pub point-read : (minus : Bool) (w b : ℕ) → w < 100 → b ≡ 46 → ReadOn (levelPoint minus w) b (reading.Point minus w)
+unfolding levelPoint levelFrom
+point-read minus w b h e = on h (λ s. rw (eq-eqb b 46 e))
 
-pub point-read : (minus : Bool) (w : ℕ) (s : List ℕ) (r : Level) → (length s ≡ 0 → ⊥) → getD s 0 0 ≡ 46
-    → r ≡ levelTenth minus w (take (length s - 1) (drop 1 s)) → r ≡ levelPoint minus w s
-unfolding levelPoint
-point-read minus w [] r h e q = absurd (h refl)
-point-read minus w (b ∷ s) r h e q = q ∙ rw (rest s, eq-eqb b 46 e)
+pub point-wrong : (minus : Bool) (w b : ℕ) → (b ≡ 46 → ⊥) → ReadOn (levelPoint minus w) b reading.Wrong
+unfolding levelPoint levelFrom
+point-wrong minus w b e = on tt (λ s. rw (ne-eqb b 46 e))
 
-pub more-end : (minus : Bool) (w : ℕ) (s : List ℕ) (r : Level) → length s ≡ 0 → r ≡ levelPoint minus w s → r ≡ levelMore minus w s
-unfolding levelMore
-more-end minus w [] r h q = q
-more-end minus w (b ∷ s) r h q = absurd (omega arith)
+pub ruleset point-rules = (point-read, point-wrong)
 
-pub more-none : (minus : Bool) (w : ℕ) (s : List ℕ) (t : Bool) (r : Level) → (length s ≡ 0 → ⊥) → t ≡ isDigit (getD s 0 0) → t ≡ false
-    → r ≡ levelPoint minus w s → r ≡ levelMore minus w s
-unfolding levelMore
-more-none minus w [] t r h e y q = q
-more-none minus w (b ∷ s) t r h e y q = q ∙ rw (← e, y)
+-- ---- behind the first digit
 
-pub more-digit : (minus : Bool) (w d : ℕ) (s : List ℕ) (t : Bool) (r : Level) → (length s ≡ 0 → ⊥) → t ≡ isDigit (getD s 0 0) → t ≡ true
-    → d ≡ getD s 0 0 - 48 → r ≡ levelPoint minus (w * 10 + d) (take (length s - 1) (drop 1 s)) → r ≡ levelMore minus w s
-unfolding levelMore
-more-digit minus w d [] t r h e y i q = absurd (h refl)
-more-digit minus w d (b ∷ s) t r h e y i q = q ∙ rw (rest s, ← e, y, i)
+module _ (minus : Bool) (w b : ℕ) (t : Bool) (e : t ≡ isDigit b) where
+  pub second-read : (d : ℕ) → w < 10 → t ≡ true → d ≡ b - 48 → ReadOn (levelMore minus w) b (reading.Digits minus (w * 10 + d))
+  unfolding levelMore levelFrom
+  second-read d h y q = on (more-below-hundred w b d t e y q h) (λ s. rw (← e, y, q))
 
-pub whole-none : (minus : Bool) (s : List ℕ) → length s ≡ 0 → Wrong ≡ levelWhole minus s
-unfolding levelWhole
-whole-none minus [] h = refl
-whole-none minus (b ∷ s) h = absurd (omega arith)
+  pub second-point : (r : Reading) → t ≡ false → ReadOn (levelPoint minus w) b r → ReadOn (levelMore minus w) b r
+  unfolding levelMore
+  second-point r y (on h f) = on h (λ s. rw (← e, y) (f s))
 
-pub whole-wrong : (minus : Bool) (s : List ℕ) (t : Bool) → (length s ≡ 0 → ⊥) → t ≡ isDigit (getD s 0 0) → t ≡ false → Wrong ≡ levelWhole minus s
-unfolding levelWhole
-whole-wrong minus [] t h e y = absurd (h refl)
-whole-wrong minus (b ∷ s) t h e y = rw (← e, y)
+pub ruleset second-rules = (flag-told, hundred-fits, more-below-hundred, below-hundred, second-read, second-point)
 
-pub whole-digit : (minus : Bool) (d : ℕ) (s : List ℕ) (t : Bool) (r : Level) → (length s ≡ 0 → ⊥) → t ≡ isDigit (getD s 0 0) → t ≡ true
-    → d ≡ getD s 0 0 - 48 → r ≡ levelMore minus d (take (length s - 1) (drop 1 s)) → r ≡ levelWhole minus s
-unfolding levelWhole
-whole-digit minus d [] t r h e y i q = absurd (h refl)
-whole-digit minus d (b ∷ s) t r h e y i q = q ∙ rw (rest s, ← e, y, i)
+-- ---- behind the sign
 
-pub level-none : (s : List ℕ) → length s ≡ 0 → Wrong ≡ readLevel s
+module _ (minus : Bool) (b : ℕ) (t : Bool) (e : t ≡ isDigit b) where
+  pub first-read : (d : ℕ) → t ≡ true → d ≡ b - 48 → ReadOn (levelWhole minus) b (reading.Digit minus d)
+  unfolding levelWhole levelFrom
+  first-read d y q = on (digit-below-ten b d t e y q) (λ s. rw (← e, y, q))
+
+  pub first-wrong : t ≡ false → ReadOn (levelWhole minus) b reading.Wrong
+  unfolding levelWhole levelFrom
+  first-wrong y = on tt (λ s. rw (← e, y))
+
+pub ruleset first-rules = (flag-told, first-read, first-wrong)
+
+-- ---- at the start
+
+pub start-sign : (b : ℕ) → b ≡ 45 → ReadOn readLevel b reading.Sign
+unfolding readLevel levelFrom
+start-sign b e = on tt (λ s. rw (eq-eqb b 45 e))
+
+pub start-first : (b : ℕ) (r : Reading) → (b ≡ 45 → ⊥) → ReadOn (levelWhole false) b r → ReadOn readLevel b r
 unfolding readLevel
-level-none [] h = refl
-level-none (b ∷ s) h = absurd (omega arith)
+start-first b r e (on h f) = on h (λ s. rw (ne-eqb b 45 e) (f s))
 
-pub level-minus : (s : List ℕ) (r : Level) → (length s ≡ 0 → ⊥) → getD s 0 0 ≡ 45 → r ≡ levelWhole true (take (length s - 1) (drop 1 s)) → r ≡ readLevel s
-unfolding readLevel
-level-minus [] r h e q = absurd (h refl)
-level-minus (b ∷ s) r h e q = q ∙ rw (rest s, eq-eqb b 45 e)
+pub ruleset start-rules = (start-sign, start-first)
 
-pub level-plain : (s : List ℕ) (r : Level) → (length s ≡ 0 → ⊥) → (getD s 0 0 ≡ 45 → ⊥) → r ≡ levelWhole false s → r ≡ readLevel s
-unfolding readLevel
-level-plain [] r h e q = absurd (h refl)
-level-plain (b ∷ s) r h e q = q ∙ rw (ne-eqb b 45 e)
+-- ---- a byte in any state
 
-pub ruleset tenth-rules = (flag-told, thousand-fits, more-below-thousand, tenth-none, tenth-wrong, tenth-read)
+module _ (r : Reading) (b : ℕ) (q : Reading) where
+  pub byte-start : r ≡ reading.Start → ReadOn readLevel b q → ReadOn (levelFrom r) b q
+  unfolding levelFrom
+  byte-start e (on h f) = on h (λ s. rw e (f s))
 
-pub ruleset point-rules = (point-end, point-wrong, point-read)
+  pub byte-sign : r ≡ reading.Sign → ReadOn (levelWhole true) b q → ReadOn (levelFrom r) b q
+  unfolding levelFrom
+  byte-sign e (on h f) = on h (λ s. rw e (f s))
 
-pub ruleset more-rules = (flag-told, hundred-fits, more-below-hundred, more-end, more-none, more-digit)
+  pub byte-digit : (minus : Bool) (w : ℕ) → r ≡ reading.Digit minus w → ReadOn (levelMore minus w) b q → ReadOn (levelFrom r) b q
+  unfolding levelFrom
+  byte-digit minus w e (on h f) = on h (λ s. rw e (f s))
 
-pub ruleset whole-rules = (flag-told, digit-below-ten, whole-none, whole-wrong, whole-digit)
+  pub byte-digits : (minus : Bool) (w : ℕ) → r ≡ reading.Digits minus w → ReadOn (levelPoint minus w) b q → ReadOn (levelFrom r) b q
+  unfolding levelFrom
+  byte-digits minus w e (on h f) = on h (λ s. rw e (f s))
 
-pub ruleset level-rules = (level-none, level-minus, level-plain)
+  pub byte-point : (minus : Bool) (w : ℕ) → r ≡ reading.Point minus w → ReadOn (levelTenth minus w) b q → ReadOn (levelFrom r) b q
+  unfolding levelFrom
+  byte-point minus w e (on h f) = on h (λ s. rw e (f s))
+
+pub byte-tenth : (r : Reading) (b : ℕ) (minus : Bool) (n : ℕ) → r ≡ reading.Tenth minus n → ReadOn (levelFrom r) b reading.Wrong
+unfolding levelFrom levelEnd
+byte-tenth r b minus n e = on tt (λ s. rw e)
+
+pub byte-wrong : (r : Reading) (b : ℕ) → r ≡ reading.Wrong → ReadOn (levelFrom r) b reading.Wrong
+unfolding levelFrom
+byte-wrong r b e = on tt (λ s. rw e)
+
+-- the numbers of the states
+module _ (r : Reading) (m : Small r) (minus : Bool) (n : ℕ) where
+  pub small-digit : r ≡ reading.Digit minus n → n < 10
+  small-digit e = rw e at m
+
+  pub small-digits : r ≡ reading.Digits minus n → n < 100
+  small-digits e = rw e at m
+
+  pub small-point : r ≡ reading.Point minus n → n < 100
+  small-point e = rw e at m
+
+  pub small-tenth : r ≡ reading.Tenth minus n → n < 1000
+  small-tenth e = rw e at m
+
+pub ruleset byte-rules = (byte-start, byte-sign, byte-digit, byte-digits, byte-point, byte-tenth, byte-wrong, small-digit, small-digits, small-point)

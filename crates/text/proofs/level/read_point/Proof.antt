@@ -1,4 +1,4 @@
--- `read_point`: each return is a rule of the state behind the whole part.
+-- `read_point`: a point, or nothing that a level has.
 use borrow.Author.Needs.{needs}
 use Rattle.text.specs.Level.Reading.{point-rules}
 use Rattle.text.proofs.level.read_point.Statement.{statement}
@@ -8,13 +8,5 @@ pub read-point-spec : {M : Type 1} → statement M
 read-point-spec =
     tie.close
     (tie.spec
-    (λ c. search needs)
-    (λ c κs. search needs)
-    (λ c. search (point-rules, needs))
-    (λ c. search needs)
-    (λ c. search needs)
-    (λ c. search needs)
-    (λ c. search needs)
-    (λ c κs. search needs)
-    (λ c. search (point-rules, needs))
-    (λ c. search (point-rules, needs)))
+    (λ c. search (point-rules, needs))  -- returns
+    (λ c. search (point-rules, needs)))  -- returns-2
