@@ -45,8 +45,10 @@ printf '\006\r' >"$out/wanted"
 compare "serve, of the list," "$out/replies" "$out/wanted"
 compare "serve, of the values after the list," "$out/now" "$out/values"
 : >"$out/wanted"
-"$out/restore" "$out/table" "$out/now" "$out/values" 2 >"$out/list" 2>/dev/null
+"$out/restore" "$out/table" "$out/now" "$out/values" 2 >"$out/list" 2>"$out/reports"
 compare "restore, of nothing," "$out/list" "$out/wanted"
+echo '0 bytes, lines: 0' >"$out/wanted"
+compare "restore, of a list of nothing," "$out/reports" "$out/wanted"
 
 # Knobs: told of where the label has a # and the value changed, and silent else; the one value is set.
 sed 's/"Commentary"/"#Commentary"/' examples/viewing-room.room >"$out/marked.room"
@@ -86,4 +88,7 @@ compare "knob, refused," "$out/turned" "$out/before"
 printf 'x' | "$out/serve" "$out/table" "$out/short" >"$out/list" 2>"$out/reports" && { echo "FAILED: serve takes a short list of values"; exit 1; }
 echo 'refused with 2: values: wrong length, or one that is not permitted' >"$out/wanted"
 compare "serve, of a short list of values," "$out/reports" "$out/wanted"
+"$out/restore" "$out/table" "$out/now" "$out/short" 1 2>"$out/reports" && { echo "FAILED: restore takes a short list of wanted values"; exit 1; }
+echo 'refused with 6: wanted: wrong length, or a chosen entry is not permitted' >"$out/wanted"
+compare "restore, of a short list of wanted values," "$out/reports" "$out/wanted"
 echo "c-examples: serve, restore and knob write what they must"

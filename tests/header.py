@@ -97,10 +97,12 @@ expect(len(library.panel(mixers(1, b"#" * 32), [0] * limit["ROWS"], 0, most, 3)[
 expect(library.panel(mixers(1), [0] * limit["ROWS"], 0, most + 1, 0)[0] == limit["REFUSED_ROW"], "rows of a module, for a panel")
 expect(library.panel(longest, [0] * limit["VALUES"], limit["MODULES"], 0, 0)[0] == limit["REFUSED_ROW"], "modules, for a panel")
 
-# The longest line of a restore list: two outputs of the last input's word, under the longest label.
-wanted = [0] * (limit["ROWS"] - 1) + [3]
-told_now = library.restore(mixers(1, b"x" * 32), [0] * limit["ROWS"], [1], wanted, 64)
-expect(told_now[:3] == (0, limit["LIST_LINE_BYTES"], 1), "bytes of a list's line")
+# The longest line of a restore list: two outputs of the last input's word, under the longest label. Its size is told, and a buffer of that size is just enough.
+longest_wish = mixers(1, b"x" * 32), [0] * limit["ROWS"], [1], [0] * (limit["ROWS"] - 1) + [3]
+longest_line = (0, limit["LIST_LINE_BYTES"], 1)
+expect(library.restore_size(*longest_wish) == longest_line, "bytes of a list's line, as its size")
+expect(library.restore_write(*longest_wish, limit["LIST_LINE_BYTES"])[:3] == longest_line, "bytes of a list's line")
+expect(library.restore_write(*longest_wish, limit["LIST_LINE_BYTES"] - 1) == (limit["REFUSED_LIST"], 0, 0, b""), "a buffer that is shorter than a list's line")
 
 # The words of each answer: ASCII with a zero byte behind, and all different; any other number has one text.
 answers = re.findall(r"^#define EGRIVUNDO_(?:OK|REFUSED_\w+) (\d+)", text, re.M)

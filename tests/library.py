@@ -13,7 +13,7 @@ PATH = pathlib.Path(os.environ.get("EGRIVUNDO_SHARED", ROOT / "target/c/libegriv
 if not PATH.exists():
     sys.exit(f"{PATH} is missing: run `make`")
 library = ctypes.CDLL(str(PATH))
-for call in ("table", "port", "panel", "restore", "value_count", "starts", "place", "row"):
+for call in ("table", "port", "panel", "restore_size", "restore_write", "value_count", "starts", "place", "row"):
     getattr(library, f"egrivundo_{call}").restype = ctypes.c_uint8
 
 
@@ -42,11 +42,22 @@ def panel(table, values, owner, row, value, room=64):
     return answer, list(numbers)[:len(values)], bytes(reply)[:told[0]]
 
 
-def restore(table, present, selection, wanted, size):
-    """A restore call: the answer, the bytes told, the lines told, and the list."""
-    space, told = (ctypes.c_uint8 * max(size, 1))(), (ctypes.c_uint64 * 2)()
-    answer = library.egrivundo_restore(*lent(ctypes.c_uint8, table), *lent(ctypes.c_int64, present), *lent(ctypes.c_uint8, selection), *lent(ctypes.c_int64, wanted),
-                                       space, ctypes.c_size_t(size), told)
+def wish(table, present, selection, wanted):
+    """What both restore calls are given."""
+    return *lent(ctypes.c_uint8, table), *lent(ctypes.c_int64, present), *lent(ctypes.c_uint8, selection), *lent(ctypes.c_int64, wanted)
+
+
+def restore_size(table, present, selection, wanted):
+    """The size of a restore list: the answer, the bytes told, and the lines told."""
+    told = (ctypes.c_uint64 * 2)(9, 9)
+    answer = library.egrivundo_restore_size(*wish(table, present, selection, wanted), told)
+    return answer, told[0], told[1]
+
+
+def restore_write(table, present, selection, wanted, size):
+    """A restore list in a buffer of this size: the answer, the bytes told, the lines told, and the list."""
+    space, told = (ctypes.c_uint8 * max(size, 1))(), (ctypes.c_uint64 * 2)(9, 9)
+    answer = library.egrivundo_restore_write(*wish(table, present, selection, wanted), space, ctypes.c_size_t(size), told)
     return answer, told[0], told[1], bytes(space)[:told[0]]
 
 

@@ -2,8 +2,9 @@
  *
  *   restore TABLE PRESENT WANTED MODULE
  *
- * The files are as room.py writes them; MODULE counts from 1. The list goes to
- * standard output, and what it is to standard error. */
+ * The files are as room.py writes them; MODULE counts from 1. How long the list
+ * is goes to standard error before there is a buffer for it, and the list to
+ * standard output. */
 
 #include <stdio.h>
 #include <stdlib.h>
@@ -14,7 +15,6 @@
 static uint8_t table[EGRIVUNDO_TABLE_BYTES + 1];
 static int64_t present[EGRIVUNDO_VALUES + 1];
 static int64_t wanted[EGRIVUNDO_VALUES + 1];
-static uint8_t list[EGRIVUNDO_ROWS * EGRIVUNDO_LIST_LINE_BYTES];
 
 /* Reads a file into a buffer, and tells how many elements there were. */
 static size_t load(const char *path, void *buffer, size_t size, size_t most)
@@ -54,8 +54,8 @@ int main(int count, char **words)
 {
     uint8_t selection[EGRIVUNDO_MODULES] = {0};
     uint64_t told[EGRIVUNDO_RESTORE_TOLD];
-    size_t table_count, present_count, wanted_count, chosen;
-    uint8_t answer;
+    size_t table_count, present_count, wanted_count, module_count, chosen;
+    uint8_t answer, *list;
 
     if (count != 5) {
         fprintf(stderr, "usage: restore TABLE PRESENT WANTED MODULE\n");
@@ -65,20 +65,40 @@ int main(int count, char **words)
     present_count = load(words[2], present, sizeof present[0], EGRIVUNDO_VALUES + 1);
     wanted_count = load(words[3], wanted, sizeof wanted[0], EGRIVUNDO_VALUES + 1);
     chosen = strtoul(words[4], NULL, 10);
-    if (egrivundo_table(table, table_count) != EGRIVUNDO_OK || chosen < 1 ||
-        chosen > modules(table_count)) {
-        fprintf(stderr, "no sound table, or no such module\n");
+    if (egrivundo_table(table, table_count) != EGRIVUNDO_OK) {
+        refused(EGRIVUNDO_REFUSED_TABLE);
+        return 1;
+    }
+    module_count = modules(table_count);
+    if (chosen < 1 || chosen > module_count) {
+        fprintf(stderr, "no such module\n");
         return 1;
     }
     selection[chosen - 1] = 1;
-    answer = egrivundo_restore(table, table_count, present, present_count, selection,
-                               modules(table_count), wanted, wanted_count, list, sizeof list,
-                               told);
+
+    /* Its size first. */
+    answer = egrivundo_restore_size(table, table_count, present, present_count, selection,
+                                    module_count, wanted, wanted_count, told);
     if (answer != EGRIVUNDO_OK) {
         refused(answer);
         return 1;
     }
     fprintf(stderr, "%u bytes, lines: %u\n", (unsigned)told[0], (unsigned)told[1]);
+
+    /* Then a buffer of that size, which is never too short, and the list. A pointer that is
+     * lent is not null, so an empty list has a byte too. */
+    list = malloc(told[0] + 1);
+    if (!list) {
+        perror("restore");
+        return 1;
+    }
+    answer = egrivundo_restore_write(table, table_count, present, present_count, selection,
+                                     module_count, wanted, wanted_count, list, told[0], told);
+    if (answer != EGRIVUNDO_OK) {
+        refused(answer);
+        return 1;
+    }
     fwrite(list, 1, told[0], stdout);
+    free(list);
     return 0;
 }

@@ -22,12 +22,12 @@ count() {
 }
 
 echo "instructions a call, over $calls calls"
-printf '%-24s %12s %12s %8s\n' case archive reference ratio
+printf '%-28s %12s %12s %8s\n' case archive reference ratio
 for name in $("$bench" list); do
     [[ $name == *"$pattern"* ]] || continue
     archive=$(count "$name" archive)
     reference=$(count "$name" reference)
     awk -v name="$name" -v a="$archive" -v r="$reference" -v n="$calls" 'BEGIN {
-        printf "%-24s %12.0f %12.0f %8.2f\n", name, a / n, r / n, a / r
+        printf "%-28s %12.0f %12.0f %8.2f\n", name, a / n, r / n, a / r
     }'
 done

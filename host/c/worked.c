@@ -36,22 +36,48 @@ static void line(const char *text, const char *reply, size_t place, int64_t valu
     expect(port[0] == 0 && port[1] == 0, text);
 }
 
-static void restore(void)
+/* Asks for the size of the list that takes table A to these values, and for the list in buffers of each length; both
+ * calls answer so, and the counts are zero with a refusal. */
+static void restore(const uint8_t *selection, size_t selection_count, const int64_t *wanted,
+                    uint8_t right, const char *list, uint64_t lines)
+{
+    const int64_t present[7] = {0};
+    uint64_t told[EGRIVUNDO_RESTORE_TOLD] = {9, 9};
+    size_t length = strlen(list), room;
+    uint8_t answer = egrivundo_restore_size(table, sizeof table, present, 7, selection,
+                                            selection_count, wanted, 7, told);
+    expect(answer == right && told[0] == length && told[1] == lines, "the size of a list");
+    for (room = 0; room <= 64; room++) {
+        uint8_t buffer[64] = {0};
+        uint8_t number = right == EGRIVUNDO_OK && room < length ? EGRIVUNDO_REFUSED_LIST : right;
+        size_t bytes = number == EGRIVUNDO_OK ? length : 0;
+        told[0] = told[1] = 9;
+        answer = egrivundo_restore_write(table, sizeof table, present, 7, selection,
+                                         selection_count, wanted, 7, buffer, room, told);
+        expect(answer == number, "what a buffer is answered");
+        expect(told[0] == bytes && told[1] == (bytes ? lines : 0), "what is told of a list");
+        expect(memcmp(buffer, list, bytes) == 0, "the list");
+        expect(bytes == 64 || buffer[bytes] == 0, "nothing is written behind the list");
+    }
+}
+
+/* The worked wish, a part of it, none, and some that are refused. */
+static void restores(void)
 {
     static const char list[] = "SA\"T\">1=-4\rSA\"T\">2=O\rSA\"T\">3=0.5\rSA\"S\">1=O\r";
-    const int64_t present[7] = {0};
     const int64_t wanted[7] = {-40, 1, 5, 0, 0, 0, 1};
-    const uint8_t selection[2] = {1, 1};
-    uint8_t buffer[43] = {0};
-    uint64_t told[EGRIVUNDO_RESTORE_TOLD] = {9, 9};
-    uint8_t answer = egrivundo_restore(table, sizeof table, present, 7, selection, 2, wanted, 7,
-                                       buffer, 42, told);
-    expect(answer == EGRIVUNDO_REFUSED_LIST && told[0] == 0 && told[1] == 0, "a buffer of 42");
-    expect(buffer[0] == 0, "a refusal writes nothing");
-    answer = egrivundo_restore(table, sizeof table, present, 7, selection, 2, wanted, 7, buffer,
-                               43, told);
-    expect(answer == EGRIVUNDO_OK && told[0] == 43 && told[1] == 4, "a buffer of 43");
-    expect(memcmp(buffer, list, 43) == 0, "the list");
+    const int64_t too_loud[7] = {151, 1, 5, 0, 0, 0, 1};
+    const uint8_t both[3] = {1, 1, 1}, second[2] = {0, 1}, none[2] = {0, 0}, wrong[2] = {1, 2};
+    restore(both, 2, wanted, EGRIVUNDO_OK, list, 4);
+    restore(second, 2, wanted, EGRIVUNDO_OK, list + 33, 1);
+    restore(none, 2, wanted, EGRIVUNDO_OK, "", 0);
+    restore(second, 2, too_loud, EGRIVUNDO_OK, list + 33, 1);
+    restore(both, 2, too_loud, EGRIVUNDO_REFUSED_WANTED, "", 0);
+    restore(wrong, 2, too_loud, EGRIVUNDO_REFUSED_SELECTION, "", 0);
+    restore(both, 3, wanted, EGRIVUNDO_REFUSED_SELECTION, "", 0);
+    table[EGRIVUNDO_RECORD_BYTES + 1] = 'T';
+    restore(both, 2, wanted, EGRIVUNDO_REFUSED_REACH, "", 0);
+    table[EGRIVUNDO_RECORD_BYTES + 1] = 'S';
 }
 
 /* An overrun byte of 7 says overrun; it is stored as 1 once bytes are given. */
@@ -121,8 +147,11 @@ static void rerouted(int64_t word, const char *list)
     const uint8_t selection[1] = {1};
     uint8_t buffer[64] = {0};
     uint64_t told[EGRIVUNDO_RESTORE_TOLD] = {9, 9};
-    uint8_t answer = egrivundo_restore(mixer, sizeof mixer, present, 7, selection, 1, wanted, 7,
-                                       buffer, sizeof buffer, told);
+    uint8_t answer = egrivundo_restore_size(mixer, sizeof mixer, present, 7, selection, 1, wanted,
+                                            7, told);
+    expect(answer == EGRIVUNDO_OK && told[0] == strlen(list) && told[1] == 1, list);
+    answer = egrivundo_restore_write(mixer, sizeof mixer, present, 7, selection, 1, wanted, 7,
+                                     buffer, told[0], told);
     expect(answer == EGRIVUNDO_OK && told[0] == strlen(list) && told[1] == 1, list);
     expect(memcmp(buffer, list, strlen(list)) == 0, list);
 }
@@ -213,7 +242,7 @@ int main(void)
     turned(2, 0, 0, EGRIVUNDO_REFUSED_ROW, "");
     turned(UINT64_MAX, UINT64_MAX, 0, EGRIVUNDO_REFUSED_ROW, "");
     sizes();
-    restore();
+    restores();
     overrun();
     show();
     if (!wrong) {

@@ -33,9 +33,9 @@ extern "C" {
 
 /* The version. Another major or minor number may have other calls, or other
  * parameters in the same calls; the shared library's soname has both. */
-#define EGRIVUNDO_VERSION "0.5.0"
+#define EGRIVUNDO_VERSION "0.6.0"
 #define EGRIVUNDO_VERSION_MAJOR 0
-#define EGRIVUNDO_VERSION_MINOR 5
+#define EGRIVUNDO_VERSION_MINOR 6
 #define EGRIVUNDO_VERSION_PATCH 0
 
 /* Limits. */
@@ -56,7 +56,7 @@ extern "C" {
                                          * bytes                              */
 #define EGRIVUNDO_PORT_TOLD 4           /* numbers told by the port call      */
 #define EGRIVUNDO_PANEL_TOLD 1          /* numbers told by the panel call     */
-#define EGRIVUNDO_RESTORE_TOLD 2        /* numbers told by the restore call   */
+#define EGRIVUNDO_RESTORE_TOLD 2        /* numbers told by each restore call  */
 #define EGRIVUNDO_LOG_TOLD 3            /* numbers told by the log call       */
 #define EGRIVUNDO_ROW_TOLD 7            /* numbers told of a row              */
 #define EGRIVUNDO_REFUSAL_BYTES 64      /* of an answer's words               */
@@ -234,6 +234,23 @@ uint8_t egrivundo_panel(const uint8_t *table, size_t table_count,
                         uint8_t *reply, size_t reply_count,
                         uint64_t told[EGRIVUNDO_PANEL_TOLD]);
 
+/* How long the list is that egrivundo_restore_write writes: it needs no buffer,
+ * and writes nothing but told.
+ *   table      a sound table
+ *   present    the present values
+ *   selection  one byte for each module: 1 chosen, 0 not
+ *   wanted     as many as present; only entries of chosen modules count
+ *   told       [0] bytes of the list, [1] its lines
+ * Given the same, the writing call refuses with the same number; where this one
+ * is accepted, it takes every buffer of at least so many bytes, and refuses a
+ * shorter one with 8.
+ * Answers 0, 1, 2, 5, 6 or 7. */
+uint8_t egrivundo_restore_size(const uint8_t *table, size_t table_count,
+                               const int64_t *present, size_t present_count,
+                               const uint8_t *selection, size_t selection_count,
+                               const int64_t *wanted, size_t wanted_count,
+                               uint64_t told[EGRIVUNDO_RESTORE_TOLD]);
+
 /* Writes the shortest list of SA lines that brings the chosen modules from
  * the present values to the wanted ones and moves nothing else.
  *   table      a sound table
@@ -243,15 +260,15 @@ uint8_t egrivundo_panel(const uint8_t *table, size_t table_count,
  *   list       the list is put at its start, the rest stays. A routing word
  *              in which one output differs is said by index 4, else by index 3
  *   told       [0] bytes written, [1] lines written
- * The list is for a room where no knob of a wall panel turns until it has been
- * played.
+ * It tests everything again, whatever the size call has answered. The list is
+ * for a room where no knob of a wall panel turns until it has been played.
  * Answers 0, 1, 2, 5, 6, 7 or 8. */
-uint8_t egrivundo_restore(const uint8_t *table, size_t table_count,
-                          const int64_t *present, size_t present_count,
-                          const uint8_t *selection, size_t selection_count,
-                          const int64_t *wanted, size_t wanted_count,
-                          uint8_t *list, size_t list_count,
-                          uint64_t told[EGRIVUNDO_RESTORE_TOLD]);
+uint8_t egrivundo_restore_write(const uint8_t *table, size_t table_count,
+                                const int64_t *present, size_t present_count,
+                                const uint8_t *selection, size_t selection_count,
+                                const int64_t *wanted, size_t wanted_count,
+                                uint8_t *list, size_t list_count,
+                                uint64_t told[EGRIVUNDO_RESTORE_TOLD]);
 
 /* How many values a table has: the length of a value list.
  *   table  a sound table

@@ -12,7 +12,8 @@ use crate::port_bytes::store;
 use log::part::LogPart;
 use log::part::log_part;
 use panel::change;
-use restore::restore;
+use restore::restore_size;
+use restore::restore_write;
 use room::table::check;
 ghost use mathlib.Core.Path.{_≡_};
 ghost use Rattle.room.specs.Table.{tableNumber};
@@ -21,7 +22,7 @@ ghost use Rattle.wish.specs.Target.{wishOf};
 ghost use Rattle.capi.specs.Log.{logAnswer};
 ghost use Rattle.capi.specs.Panel.{panelAnswer, panelTells};
 ghost use Rattle.capi.specs.Port.{PortCalled};
-ghost use Rattle.capi.specs.Restore.{restoreAnswer, restoreTells};
+ghost use Rattle.capi.specs.Restore.{restoreAnswer, restoreTells, sizeAnswer, sizeTells};
 
 // Whether a table is sound: 0, or the refusal's number, 1.
 #[no_mangle]
@@ -96,9 +97,25 @@ pub extern "C" fn egrivundo_panel(
     changed.number
 }
 
-// The restore call: `told` becomes the bytes and the lines of the list.
+// The size call: `told` becomes the bytes and the lines of the list that the writing call writes.
 #[no_mangle]
-pub extern "C" fn egrivundo_restore(
+pub extern "C" fn egrivundo_restore_size(
+    table: &[u8],
+    present: &[i64],
+    selection: &[u8],
+    wanted: &[i64],
+    told: &mut [u64; 2],
+) -> u8
+    ensures { λ r. ⌜ sizeTells r (now (told .exit)) ≡ sizeAnswer (wishOf (now (table .entry)) (now (present .entry)) (now (selection .entry)) (now (wanted .entry))) ⌝ }
+{
+    let sized = restore_size(table, present, selection, wanted);
+    *told = [sized.bytes as u64, sized.lines as u64];
+    sized.number
+}
+
+// The writing call: `told` becomes the bytes and the lines written.
+#[no_mangle]
+pub extern "C" fn egrivundo_restore_write(
     table: &[u8],
     present: &[i64],
     selection: &[u8],
@@ -108,7 +125,7 @@ pub extern "C" fn egrivundo_restore(
 ) -> u8
     ensures { λ r. ⌜ restoreTells r (now (told .exit)) (now (list .exit)) ≡ restoreAnswer (wishOf (now (table .entry)) (now (present .entry)) (now (selection .entry)) (now (wanted .entry))) (now (list .entry)) ⌝ }
 {
-    let restored = restore(table, present, selection, wanted, list);
+    let restored = restore_write(table, present, selection, wanted, list);
     *told = [restored.bytes as u64, restored.lines as u64];
     restored.number
 }

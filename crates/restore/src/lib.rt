@@ -1,4 +1,4 @@
-// The restore call, with demand 3 in its contract.
+// The two restore calls, with demand 3 in their contracts: how long the list is, and writing it.
 use catalogue::table::all_rows;
 use restore_list::list::write;
 use restore_list::measure::measure;
@@ -11,61 +11,26 @@ ghost use Rattle.catalogue.specs.Catalogue.{numbers};
 ghost use mathlib.Core.Bool.{true};
 ghost use mathlib.Core.Path.{_≡_};
 ghost use Rattle.room.specs.Table.{sound};
-ghost use Rattle.restore.specs.Demand.{Restores};
+ghost use Rattle.restore.specs.Demand.{Restores, Sizes};
 ghost use Rattle.wish.specs.Listing.{Admitted, selectionNumber, testNumber, wantedNumber};
 ghost use Rattle.values.specs.Room.{roomOf};
 ghost use Rattle.wish.specs.Target.{selectionRight, wishOf};
 
-// The bytes and the lines written, and the number of a refusal or 0.
+// The bytes and the lines of the list, and the number of a refusal or 0.
 pub struct Restored {
     pub bytes: usize,
     pub lines: usize,
     pub number: u8,
 }
 
-// What a refused call answers.
-fn refused(number: u8) -> Restored
-    ensures { λ r. ⌜ r ≡ record { bytes = 0; lines = 0; number = number } ⌝ }
+// An answer, of which a refusal counts zero.
+fn told(number: u8, bytes: usize, lines: usize) -> Restored
+    ensures { λ r. ⌜ r ≡ record { bytes = bytes; lines = lines; number = number } ⌝ }
 {
     Restored {
-        bytes: 0,
-        lines: 0,
+        bytes,
+        lines,
         number,
-    }
-}
-
-// The list of a wish that is right, measured before a byte of it is written.
-fn list_changes(
-    table: &[u8],
-    rows: &[[i32; 8]; 50],
-    present: &[i64],
-    selection: &[u8],
-    wanted: &[i64],
-    list: &mut [u8],
-) -> Restored
-    requires { ⌜ (now rows ≡ numbers) × Admitted (wishOf (now table) (now present) (now selection) (now wanted)) ⌝ }
-    ensures { λ r. ⌜ Restores (wishOf (now (table .entry)) (now (present .entry)) (now (selection .entry)) (now (wanted .entry))) (now (list .entry)) r (now (list .exit)) ⌝ }
-{
-    match measure(table, rows, present, selection, wanted) {
-        Measured::Beyond => refused(7),
-        Measured::Within(bytes, lines) => {
-            if list.len() < bytes {
-                return refused(8);
-            }
-            if lines == 0 {
-                return Restored {
-                    bytes: 0,
-                    lines: 0,
-                    number: 0,
-                };
-            }
-            write(table, rows, present, selection, wanted, list);
-            Restored {
-                bytes,
-                lines,
-                number: 0,
-            }
-        }
     }
 }
 
@@ -117,8 +82,51 @@ fn failed_test(
     wanted_number(table, rows, selection, wanted)
 }
 
-// Writes the shortest list that brings the chosen modules to their wanted values, or refuses and writes nothing.
-pub fn restore(
+// The list of a wish that passes these tests, measured.
+fn size_changes(
+    table: &[u8],
+    rows: &[[i32; 8]; 50],
+    present: &[i64],
+    selection: &[u8],
+    wanted: &[i64],
+) -> Restored
+    requires { ⌜ (now rows ≡ numbers) × Admitted (wishOf (now table) (now present) (now selection) (now wanted)) ⌝ }
+    ensures { λ r. ⌜ Sizes (wishOf (now (table .entry)) (now (present .entry)) (now (selection .entry)) (now (wanted .entry))) r ⌝ }
+{
+    match measure(table, rows, present, selection, wanted) {
+        Measured::Beyond => told(7, 0, 0),
+        Measured::Within(bytes, lines) => told(0, bytes, lines),
+    }
+}
+
+// Tested, then measured: what both calls begin with.
+fn size_list(
+    table: &[u8],
+    rows: &[[i32; 8]; 50],
+    present: &[i64],
+    selection: &[u8],
+    wanted: &[i64],
+) -> Restored
+    requires { ⌜ now rows ≡ numbers ⌝ }
+    ensures { λ r. ⌜ Sizes (wishOf (now (table .entry)) (now (present .entry)) (now (selection .entry)) (now (wanted .entry))) r ⌝ }
+{
+    let number = failed_test(table, rows, present, selection, wanted);
+    if number != 0 {
+        return told(number, 0, 0);
+    }
+    size_changes(table, rows, present, selection, wanted)
+}
+
+// How long the shortest list is that brings the chosen modules to their wanted values.
+pub fn restore_size(table: &[u8], present: &[i64], selection: &[u8], wanted: &[i64]) -> Restored
+    ensures { λ r. ⌜ Sizes (wishOf (now (table .entry)) (now (present .entry)) (now (selection .entry)) (now (wanted .entry))) r ⌝ }
+{
+    let rows = all_rows();
+    size_list(table, &rows, present, selection, wanted)
+}
+
+// Writes that list, or refuses and writes nothing. Everything is tested again.
+pub fn restore_write(
     table: &[u8],
     present: &[i64],
     selection: &[u8],
@@ -128,9 +136,16 @@ pub fn restore(
     ensures { λ r. ⌜ Restores (wishOf (now (table .entry)) (now (present .entry)) (now (selection .entry)) (now (wanted .entry))) (now (list .entry)) r (now (list .exit)) ⌝ }
 {
     let rows = all_rows();
-    let number = failed_test(table, &rows, present, selection, wanted);
-    if number != 0 {
-        return refused(number);
+    let sized = size_list(table, &rows, present, selection, wanted);
+    if sized.number > 0 {
+        return sized;
     }
-    list_changes(table, &rows, present, selection, wanted, list)
+    if list.len() < sized.bytes {
+        return told(8, 0, 0);
+    }
+    if sized.lines == 0 {
+        return told(0, 0, 0);
+    }
+    write(table, &rows, present, selection, wanted, list);
+    sized
 }

@@ -1,4 +1,4 @@
--- The restore list: one set line for each parameter that differs, in value order, and what the restore call answers.
+-- The restore list: one set line for each parameter that differs, in value order, and what the two restore calls answer, that for its size and that which writes it.
 pub mod Admitting
 pub mod Beyond
 pub mod Counted
@@ -8,6 +8,7 @@ pub mod Numbers
 pub mod Reach
 pub mod Rows
 pub mod Settable
+pub mod Sizing
 pub mod Telling
 pub mod Wanted
 use mathlib.Core.Bool.{Bool, true, false, cond, _&&_}
@@ -104,9 +105,13 @@ testNumber w = firstRefusal (tests w)
 unfoldable pub listNumber : (table : List ℕ) → (room : ℕ) → List Change → ℕ
 listNumber t room cs = firstRefusal (listTests t room cs)
 
--- the first that applies in the call's order, 0 where none does: 1, 2, 5 and 6, which are tested before the list, then 7 and 8
+-- the first that applies in the writing call's order, 0 where none does: 1, 2, 5 and 6, which are tested before the list, then 7 and 8
 unfoldable pub restoreNumber : Wish → (room : ℕ) → ℕ
 restoreNumber w room = firstRefusal (tests w ++ listTests (w .room .table) room (changes w))
+
+-- the same without a buffer: 1, 2, 5 and 6, then 7
+unfoldable pub sizeNumber : Wish → ℕ
+sizeNumber w = firstRefusal (tests w ++ reachNumber (w .room .table) (changes w) ∷ [])
 
 -- 1, 2, 5 and 6 do not apply
 pub record Admitted (w : Wish) : Type 0 where
@@ -115,7 +120,22 @@ pub record Admitted (w : Wish) : Type 0 where
   pub selection : selectionRight (w .room .table) (w .selection) ≡ true
   pub wanted : wantedRight (w .room) (w .selection) (w .wanted) ≡ true
 
--- what the call tells, and what it leaves in the list buffer
+-- what the size call tells
+pub record Size : Type 0 where
+  pub number : ℕ
+  pub bytes : ℕ
+  pub lines : ℕ
+
+-- the list's bytes and its lines; a refusal counts zero
+unfoldable pub sizeOf : (table : List ℕ) → (number : ℕ) → List Change → Size
+sizeOf t zero cs = record { number = 0; bytes = length (listing t cs); lines = length cs }
+sizeOf t (suc n) cs = record { number = suc n; bytes = 0; lines = 0 }
+
+-- the whole size call
+unfoldable pub size : Wish → Size
+size w = sizeOf (w .room .table) (sizeNumber w) (changes w)
+
+-- what the writing call tells, and what it leaves in the list buffer
 pub record Told : Type 0 where
   pub number : ℕ
   pub bytes : ℕ
@@ -128,6 +148,6 @@ tell t zero buffer cs =
     record { number = 0; bytes = length (listing t cs); lines = length cs; buffer = sets buffer 0 (listing t cs) }
 tell t (suc n) buffer cs = record { number = suc n; bytes = 0; lines = 0; buffer = buffer }
 
--- the whole call
+-- the whole writing call
 unfoldable pub restore : Wish → (buffer : List ℕ) → Told
 restore w buffer = tell (w .room .table) (restoreNumber w (length buffer)) buffer (changes w)

@@ -1,7 +1,7 @@
-// The restore call, compared with what it must tell and write.
+// The writing restore call, compared with what it must tell and write.
 use crate::compare::same_bytes;
 use restore::Restored;
-use restore::restore;
+use restore::restore_write;
 ghost use mathlib.Core.Path.{_≡_};
 ghost use Rattle.wish.specs.Target.{wishOf};
 ghost use Rattle.worked.specs.Restored.{Compares, listRight, told};
@@ -39,6 +39,6 @@ pub(crate) fn list_right(
 ) -> bool
     ensures { λ r. ⌜ Compares (wishOf (now (table .entry)) (now (present .entry)) (now (selection .entry)) (now (wanted .entry))) (now (buffer .entry)) number lines (now (list .entry)) r (now (buffer .exit)) ⌝ }
 {
-    let restored = restore(table, present, selection, wanted, buffer);
+    let restored = restore_write(table, present, selection, wanted, buffer);
     told_right(restored, buffer, number, lines, list)
 }

@@ -32,13 +32,18 @@ enum Work {
     Panel {
         marked: bool,
     },
-    Restore {
-        selection: Vec<u8>,
-        wanted: Vec<i64>,
-    },
+    Size(Wish),
+    Write(Wish),
     Log {
         line: Vec<u8>,
     },
+}
+
+/// What both restore calls are given beside the room.
+#[derive(Clone)]
+struct Wish {
+    selection: Vec<u8>,
+    wanted: Vec<i64>,
 }
 
 enum Expected {
@@ -84,15 +89,21 @@ fn of_room(room: Room) -> Vec<Case> {
         let pairs = room.values.iter().zip(wanted).take(judged);
         let lines = pairs.filter(|(present, wanted)| present != wanted).count();
         let (selection, wanted) = (selection.to_vec(), wanted.to_vec());
-        let work = Work::Restore { selection, wanted };
-        works.push((name.to_string(), (work, Expected::Lines(lines as u64))));
+        let wish = Wish { selection, wanted };
+        for (call, work) in [
+            ("size", Work::Size(wish.clone())),
+            ("write", Work::Write(wish)),
+        ] {
+            let name = format!("restore-{call}-{name}");
+            works.push((name, (work, Expected::Lines(lines as u64))));
+        }
     };
-    restore("restore-none", &none, &room.wanted, 0);
-    restore("restore-one", &one, &room.wanted, room.first);
+    restore("none", &none, &room.wanted, 0);
+    restore("one", &one, &room.wanted, room.first);
     if let Some(few) = &room.few {
-        restore("restore-few", &all, few, few.len());
+        restore("few", &all, few, few.len());
     }
-    restore("restore-all", &all, &room.wanted, room.values.len());
+    restore("all", &all, &room.wanted, room.values.len());
     works.push((
         "log".to_string(),
         (Work::Log { line: get }, Expected::InTable(1)),
@@ -148,11 +159,18 @@ impl Case {
                     &mut self.noticed,
                 )
             }
-            Work::Restore { selection, wanted } => (calls.restore)(
+            Work::Size(wish) => (calls.restore_size)(
                 &room.table,
                 &room.values,
-                selection,
-                wanted,
+                &wish.selection,
+                &wish.wanted,
+                &mut self.listed,
+            ),
+            Work::Write(wish) => (calls.restore_write)(
+                &room.table,
+                &room.values,
+                &wish.selection,
+                &wish.wanted,
                 &mut self.list,
                 &mut self.listed,
             ),

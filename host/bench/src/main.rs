@@ -69,7 +69,7 @@ fn seconds(case: &mut Case, calls: &Calls, count: u64) -> f64 {
 fn table() {
     println!("nanoseconds a call, the quickest of {ROUNDS} rounds");
     println!(
-        "{:24} {:>12} {:>12} {:>8}",
+        "{:28} {:>12} {:>12} {:>8}",
         "case", "archive", "reference", "ratio"
     );
     for mut case in cases::all() {
@@ -87,7 +87,7 @@ fn table() {
         }
         let [archive, reference] = best.map(|seconds| seconds * 1e9 / count as f64);
         println!(
-            "{:24} {archive:12.1} {reference:12.1} {:8.2}",
+            "{:28} {archive:12.1} {reference:12.1} {:8.2}",
             case.name,
             archive / reference
         );

@@ -4,9 +4,10 @@
 
 type Port = fn(&[u8], &mut [i64], &mut [u8; 66], &[u8], &mut [u8], &mut [u64; 4]) -> u8;
 type Panel = fn(&[u8], &mut [i64], u64, u64, i64, &mut [u8], &mut [u64; 1]) -> u8;
-type Restore = fn(&[u8], &[i64], &[u8], &[i64], &mut [u8], &mut [u64; 2]) -> u8;
+type RestoreSize = fn(&[u8], &[i64], &[u8], &[i64], &mut [u64; 2]) -> u8;
+type RestoreWrite = fn(&[u8], &[i64], &[u8], &[i64], &mut [u8], &mut [u64; 2]) -> u8;
 
-/// The five calls of a core, over slices and blocks of fixed size.
+/// The six calls of a core, over slices and blocks of fixed size.
 pub struct Calls {
     /// Of a table.
     pub table: fn(&[u8]) -> u8,
@@ -14,8 +15,10 @@ pub struct Calls {
     pub port: Port,
     /// Of table, values, module and row number, value, reply, told.
     pub panel: Panel,
+    /// Of table, present values, selection, wanted values, told.
+    pub restore_size: RestoreSize,
     /// Of table, present values, selection, wanted values, list, told.
-    pub restore: Restore,
+    pub restore_write: RestoreWrite,
     /// Of table, line, told.
     pub log: fn(&[u8], &[u8], &mut [u64; 3]),
 }
@@ -25,7 +28,8 @@ pub static REFERENCE: Calls = Calls {
     table: reference::table,
     port: reference::port,
     panel: reference::panel,
-    restore: reference::restore,
+    restore_size: reference::restore_size,
+    restore_write: reference::restore_write,
     log: reference::log,
 };
 
@@ -35,6 +39,7 @@ pub static ARCHIVE: Calls = Calls {
     table: egrivundo::calls::table,
     port: egrivundo::calls::port,
     panel: egrivundo::calls::panel,
-    restore: egrivundo::calls::restore,
+    restore_size: egrivundo::calls::restore_size,
+    restore_write: egrivundo::calls::restore_write,
     log: egrivundo::calls::log,
 };

@@ -9,8 +9,10 @@ mod panel;
 mod port;
 mod restore;
 mod route;
+mod size;
 mod table;
 mod values;
+mod write;
 
 /// Name, what is wrong, file of the reference, the right text (at one place
 /// of the file) and the wrong one.
@@ -23,13 +25,15 @@ pub type Mistake = (
 );
 
 /// All of them, part by part.
-pub const MISTAKES: [&[Mistake]; 11] = [
+pub const MISTAKES: [&[Mistake]; 13] = [
     values::MISTAKES,
     table::MISTAKES,
     line::MISTAKES,
     fault::MISTAKES,
     port::MISTAKES,
     restore::MISTAKES,
+    size::MISTAKES,
+    write::MISTAKES,
     log::MISTAKES,
     mixer::MISTAKES,
     route::MISTAKES,

@@ -1,4 +1,4 @@
-//! The restore list.
+//! The restore list: both calls, and what the writing call puts down.
 
 use super::Mistake;
 
@@ -42,8 +42,8 @@ pub const MISTAKES: &[Mistake] = &[
         "room_equal",
         "a buffer of just the length is too short",
         "restore.rs",
-        "if count.0 > list.len() {",
-        "if count.0 >= list.len() && count.0 > 0 {",
+        "if bytes > list.len() {",
+        "if bytes >= list.len() && bytes > 0 {",
     ),
     (
         "long_level",
@@ -70,14 +70,14 @@ pub const MISTAKES: &[Mistake] = &[
         "part_written",
         "a list that does not fit is begun",
         "restore.rs",
-        "if count.0 > list.len() {",
-        "if count.0 > list.len() {\n        list.iter_mut().zip(b\"SA\").for_each(|(to, from)| *to = *from);",
+        "if bytes > list.len() {",
+        "if bytes > list.len() {\n        list.iter_mut().zip(b\"SA\").for_each(|(to, from)| *to = *from);",
     ),
     (
         "reach_late",
         "8 comes before 7",
         "restore.rs",
-        "    if wish.chosen().any(|module| wish.beyond_reach(module)) {\n        return Err(7);\n    }\n    let mut count = Count(0);\n    let lines = wish.write(&mut count);\n    if count.0 > list.len() {\n        return Err(8);\n    }",
-        "    let mut count = Count(0);\n    let lines = wish.write(&mut count);\n    if count.0 > list.len() {\n        return Err(8);\n    }\n    if wish.chosen().any(|module| wish.beyond_reach(module)) {\n        return Err(7);\n    }",
+        "    let wish = Wish::new(table, present, selection, wanted)?;\n    let [bytes, _] = wish.measure();",
+        "    let wish = match Wish::new(table, present, selection, wanted) {\n        Err(7) => {\n            let wish = Wish { table: Table::new(table).ok_or(1u8)?, present, selection, wanted };\n            return Err(if wish.measure()[0] > list.len() { 8 } else { 7 });\n        }\n        wish => wish?,\n    };\n    let [bytes, _] = wish.measure();",
     ),
 ];

@@ -182,7 +182,7 @@ pub const MISTAKES: &[Mistake] = &[
         "list_measured",
         "a list is measured by its word lines",
         "restore.rs",
-        "    let lines = wish.write(&mut count);",
-        "    let lines = wish.write(&mut count);\n    let words = wish.chosen().flat_map(|module| wish.changes(module)).filter(|change| change.row.kind == super::catalogue::Kind::Word && (change.present ^ change.wanted).count_ones() == 1);\n    count.0 += words.map(|change| if change.present ^ change.wanted > 0x0040_0000 { 3 } else { 2 }).sum::<usize>();",
+        "        let lines = self.put(&mut count);",
+        "        let lines = self.put(&mut count);\n        let words = self.chosen().flat_map(|module| self.changes(module)).filter(|change| change.row.kind == super::catalogue::Kind::Word && (change.present ^ change.wanted).count_ones() == 1);\n        count.0 += words.map(|change| if change.present ^ change.wanted > 0x0040_0000 { 3 } else { 2 }).sum::<usize>();",
     ),
 ];

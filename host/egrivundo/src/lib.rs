@@ -1,7 +1,7 @@
 //! A safe interface to the proved control core of a viewing room's sound box.
 //!
-//! [`calls`] has the five functions of the archive over slices and blocks of
-//! fixed size. [`Room`], [`Port`] and [`List`] stand above them.
+//! [`calls`] has the functions of the archive over slices and blocks of fixed
+//! size. [`Room`], [`Port`] and [`List`] stand above them.
 //!
 //! ```
 //! use egrivundo::{Port, Room, Type};
@@ -47,7 +47,7 @@ mod wish;
 pub use fault::{Cause, Fault};
 pub use index::{Index, IndexError};
 pub use kind::Type;
-pub use list::List;
+pub use list::{List, Size};
 pub use port::Port;
 pub use refusal::Refusal;
 pub use reply::Reply;

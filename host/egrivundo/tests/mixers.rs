@@ -59,7 +59,9 @@ fn the_largest_room() {
             _ => 1,
         })
         .collect();
-    let list = room.restore(&[1; 64], &wanted).unwrap();
+    let size = room.restore_size(&[1; 64], &wanted).unwrap();
+    assert_eq!(size.to_string(), "479552 bytes, 10240 lines");
+    let list = room.put_back(&[1; 64], &wanted).unwrap();
     assert_eq!((list.bytes().len(), list.lines()), (479_552, 10_240));
     let mut after = room.clone();
     let first = list.bytes().len() / 64;

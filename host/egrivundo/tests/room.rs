@@ -37,26 +37,6 @@ fn unsound_rooms() {
 }
 
 #[test]
-fn refusals_of_restore() {
-    let room = room();
-    let same = room.values().to_vec();
-    assert!(room.restore(&[1; 4], &same).unwrap().is_empty());
-    assert_eq!(room.restore(&[1; 3], &same), Err(Refusal::Selection));
-    assert_eq!(room.restore(&[2; 4], &same), Err(Refusal::Selection));
-    assert_eq!(room.restore(&[1; 4], &same[1..]), Err(Refusal::Wanted));
-    let mut wanted = same.clone();
-    wanted[0] = 151;
-    assert_eq!(room.restore(&[1; 4], &wanted), Err(Refusal::Wanted));
-    assert!(room.restore(&[0, 1, 1, 1], &wanted).unwrap().is_empty());
-    let mut wanted = same.clone();
-    wanted[40] = 1;
-    assert_eq!(room.restore(&[1; 4], &wanted), Err(Refusal::Reach));
-    let mut wanted = same;
-    wanted[6] = 1;
-    assert_eq!(room.restore(&[1; 4], &wanted), Err(Refusal::Reach));
-}
-
-#[test]
 fn the_longest_list_fits() {
     let label = "x".repeat(32);
     let mut modules = vec![(Type::ConferenceRouter, String::new()); 64];
@@ -82,7 +62,7 @@ fn the_longest_list_fits() {
             };
         }
     }
-    let list = room.restore(&[1; 64], &wanted).unwrap();
+    let list = room.put_back(&[1; 64], &wanted).unwrap();
     assert_eq!(list.lines(), 64 * 27);
     let mut port = Port::new();
     let replies = room.feed_all(&mut port, list.bytes()).unwrap();

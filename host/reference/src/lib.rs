@@ -1,6 +1,6 @@
 //! The paper once more, in plain safe Rust.
 //!
-//! The five functions here take the same arguments as the C functions of the
+//! The six functions here take the same arguments as the C functions of the
 //! archive, as slices and blocks of fixed size, and answer with the same
 //! numbers, so that the two can be compared byte for byte. Nothing here
 //! allocates.
@@ -67,8 +67,19 @@ pub fn panel(
     tell(told, panel::call(table, values, owner, row, value, reply))
 }
 
-/// The restore list. `told` becomes bytes and lines.
-pub fn restore(
+/// The size of the restore list. `told` becomes its bytes and lines.
+pub fn restore_size(
+    table: &[u8],
+    present: &[i64],
+    selection: &[u8],
+    wanted: &[i64],
+    told: &mut [u64; 2],
+) -> u8 {
+    tell(told, restore::size(table, present, selection, wanted))
+}
+
+/// The restore list. `told` becomes bytes and lines written.
+pub fn restore_write(
     table: &[u8],
     present: &[i64],
     selection: &[u8],
@@ -76,7 +87,10 @@ pub fn restore(
     list: &mut [u8],
     told: &mut [u64; 2],
 ) -> u8 {
-    tell(told, restore::call(table, present, selection, wanted, list))
+    tell(
+        told,
+        restore::write(table, present, selection, wanted, list),
+    )
 }
 
 fn tell<const COUNT: usize>(

@@ -161,29 +161,38 @@ fn restores() {
     let mut room = Room::new(&[(1, b"T"), (5, b"R"), (2, b"D"), (3, b"D")]);
     let none = room.values.clone();
     let all = [1; 4];
-    assert_eq!(room.restore(&all, &none, 0), Ok((vec![], 0)));
+    assert_eq!(room.restore_write(&all, &none, 0), Ok((vec![], 0)));
     // 5: length, then a byte over 1.
-    assert_eq!(room.restore(&all[1..], &[], 0), Err(5));
-    assert_eq!(room.restore(&[1, 2, 1, 1], &[], 0), Err(5));
+    assert_eq!(room.restore_write(&all[1..], &[], 0), Err(5));
+    assert_eq!(room.restore_write(&[1, 2, 1, 1], &[], 0), Err(5));
     // 6: length, then chosen entries.
-    assert_eq!(room.restore(&all, &none[1..], 0), Err(6));
+    assert_eq!(room.restore_write(&all, &none[1..], 0), Err(6));
     let mut wanted = none.clone();
     wanted[0] = 151;
     wanted[6] = -55;
-    assert_eq!(room.restore(&all, &wanted, 0), Err(6));
+    assert_eq!(room.restore_write(&all, &wanted, 0), Err(6));
     wanted[0] = i64::MIN;
     wanted[6] = none[6];
     wanted[6 + 7] = 1;
-    assert_eq!(room.restore(&[0, 1, 0, 0], &wanted, 100).unwrap().1, 1);
+    assert_eq!(
+        room.restore_write(&[0, 1, 0, 0], &wanted, 100).unwrap().1,
+        1
+    );
     // 7: read-only, or a shared label, and before 8.
     wanted = none.clone();
     wanted[6] = 1;
-    assert_eq!(room.restore(&all, &wanted, 0), Err(7));
-    assert_eq!(room.restore(&[1, 0, 1, 1], &wanted, 0), Ok((vec![], 0)));
+    assert_eq!(room.restore_write(&all, &wanted, 0), Err(7));
+    assert_eq!(
+        room.restore_write(&[1, 0, 1, 1], &wanted, 0),
+        Ok((vec![], 0))
+    );
     wanted = none.clone();
     wanted[39] = 1;
-    assert_eq!(room.restore(&[0, 0, 1, 0], &wanted, 0), Err(7));
-    assert_eq!(room.restore(&[1, 1, 0, 1], &wanted, 0), Ok((vec![], 0)));
+    assert_eq!(room.restore_write(&[0, 0, 1, 0], &wanted, 0), Err(7));
+    assert_eq!(
+        room.restore_write(&[1, 1, 0, 1], &wanted, 0),
+        Ok((vec![], 0))
+    );
     // Texts: shortest levels, O and F.
     room.values[1] = 1;
     room.values[2] = 100;
@@ -192,13 +201,13 @@ fn restores() {
     wanted[4] = 120;
     let list = b"SA\"T\">1=-0.5\rSA\"T\">2=F\rSA\"T\">3=0\rSA\"T\">5=12\r".to_vec();
     assert_eq!(
-        room.restore(&all, &wanted, list.len()),
+        room.restore_write(&all, &wanted, list.len()),
         Ok((list.clone(), 4))
     );
-    assert_eq!(room.restore(&all, &wanted, list.len() - 1), Err(8));
+    assert_eq!(room.restore_write(&all, &wanted, list.len() - 1), Err(8));
     // The empty table has an empty wish.
     let empty = Room::new(&[]);
-    assert_eq!(empty.restore(&[], &[], 0), Ok((vec![], 0)));
-    assert_eq!(empty.restore(&[0], &[], 0), Err(5));
-    assert_eq!(empty.restore(&[], &[0], 0), Err(6));
+    assert_eq!(empty.restore_write(&[], &[], 0), Ok((vec![], 0)));
+    assert_eq!(empty.restore_write(&[0], &[], 0), Err(5));
+    assert_eq!(empty.restore_write(&[], &[0], 0), Err(6));
 }

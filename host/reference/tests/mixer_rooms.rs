@@ -120,10 +120,10 @@ fn list(present: [i64; 2], wanted: [i64; 2]) -> Result<(String, u64), u8> {
     let mut wish = room.values.clone();
     room.values[24..].copy_from_slice(&present);
     wish[24..].copy_from_slice(&wanted);
-    let (list, lines) = room.restore(&[1], &wish, 1000)?;
-    assert_eq!(room.restore(&[1], &wish, list.len()).unwrap().0, list);
+    let (list, lines) = room.restore_write(&[1], &wish, 1000)?;
+    assert_eq!(room.restore_write(&[1], &wish, list.len()).unwrap().0, list);
     if !list.is_empty() {
-        assert_eq!(room.restore(&[1], &wish, list.len() - 1), Err(8));
+        assert_eq!(room.restore_write(&[1], &wish, list.len() - 1), Err(8));
     }
     for line in list.split_inclusive(|&byte| byte == b'\r') {
         assert_eq!(room.line(&line[..line.len() - 1]), ACK);
@@ -163,15 +163,15 @@ fn levels_before_words() {
         vec![Layout::of(2), Layout::mixer(1, 1), Layout::of(2)],
     );
     let wanted = [1, -5, 1, 120, 1, 0x8000_0000, 0];
-    assert_eq!(room.restore(&[1; 3], &wanted, 999), Err(7));
+    assert_eq!(room.restore_write(&[1; 3], &wanted, 999), Err(7));
     room.table[69] = b'N';
     let list = b"SA\"S\">1=O\rSA\"M\">1>1=-0.5\rSA\"M\">1>2=O\rSA\"M\">2>1=12\r\
                  SA\"M\">2>2=O\rSA\"M\">4>(1,1)=O\r";
-    let answer = room.restore(&[1; 3], &wanted, 999);
+    let answer = room.restore_write(&[1; 3], &wanted, 999);
     assert_eq!(answer, Ok((list.to_vec(), 6)));
     // A word that is not chosen is not judged.
     let wanted = [1, 0, 0, 0, 0, 1, 0];
     let alone = Ok((b"SA\"S\">1=O\r".to_vec(), 1));
-    assert_eq!(room.restore(&[1, 0, 0], &wanted, 999), alone);
-    assert_eq!(room.restore(&[1, 1, 0], &wanted, 999), Err(6));
+    assert_eq!(room.restore_write(&[1, 0, 0], &wanted, 999), alone);
+    assert_eq!(room.restore_write(&[1, 1, 0], &wanted, 999), Err(6));
 }

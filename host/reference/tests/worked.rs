@@ -120,11 +120,15 @@ fn restore() {
     let wanted = [-40, 1, 5, 0, 0, 0, 1];
     let list = b"SA\"T\">1=-4\rSA\"T\">2=O\rSA\"T\">3=0.5\rSA\"S\">1=O\r".to_vec();
     assert_eq!(list.len(), 43);
-    assert_eq!(room.restore(&[1, 1], &wanted, 43), Ok((list.clone(), 4)));
-    assert_eq!(room.restore(&[1, 1], &wanted, 100), Ok((list, 4)));
-    assert_eq!(room.restore(&[1, 1], &wanted, 42), Err(8));
+    assert_eq!(room.restore_size(&[1, 1], &wanted), Ok((43, 4)));
+    assert_eq!(
+        room.restore_write(&[1, 1], &wanted, 43),
+        Ok((list.clone(), 4))
+    );
+    assert_eq!(room.restore_write(&[1, 1], &wanted, 100), Ok((list, 4)));
+    assert_eq!(room.restore_write(&[1, 1], &wanted, 42), Err(8));
     let alone = b"SA\"S\">1=O\r".to_vec();
-    assert_eq!(room.restore(&[0, 1], &wanted, 43), Ok((alone, 1)));
+    assert_eq!(room.restore_write(&[0, 1], &wanted, 43), Ok((alone, 1)));
 }
 
 #[test]

@@ -1,6 +1,6 @@
 //! The answer: what the core says to a wish, and what its list does.
 
-use egrivundo::{Beyond, Index, Kind, List, Port, Refusal, Reply, Room, Type, Why};
+use egrivundo::{Beyond, Index, Kind, List, Port, Refusal, Reply, Room, Size, Type, Why};
 
 use crate::value::value_text;
 use crate::wish_file::Wish;
@@ -58,10 +58,11 @@ pub struct Hindrance {
     pub wanted: String,
 }
 
-/// Asks the core for the list and plays it.
-pub fn ask(room: &Room, wish: &Wish) -> Result<Answer, String> {
-    let list = match wish.core.list() {
-        Ok(list) => list,
+/// Asks the core for the size of the list and shows it; then asks for the list
+/// and plays it.
+pub fn ask(room: &Room, wish: &Wish, show: impl FnOnce(Size)) -> Result<Answer, String> {
+    let size = match wish.core.size() {
+        Ok(size) => size,
         Err(Refusal::Reach) => {
             let beyond = wish.core.beyond_reach();
             let hindrances = beyond.iter().map(|beyond| hindrance(room, wish, beyond));
@@ -69,6 +70,11 @@ pub fn ask(room: &Room, wish: &Wish) -> Result<Answer, String> {
         }
         Err(refusal) => return Err(refusal.to_string()),
     };
+    show(size);
+    let list = wish.core.list().map_err(|refusal| refusal.to_string())?;
+    if list.size() != size {
+        return Err("the list is not as long as was told".to_string());
+    }
     let mut after = room.clone();
     let mut port = Port::new();
     let fed = after.feed_all(&mut port, list.bytes());
@@ -152,11 +158,7 @@ impl Answer {
     /// What it takes.
     pub fn measure(&self) -> String {
         match self {
-            Answer::Yes(yes) => {
-                let bytes = counted(yes.list.bytes().len(), "byte");
-                let lines = counted(yes.list.lines(), "line");
-                format!("{bytes}, {lines}.")
-            }
+            Answer::Yes(yes) => format!("{}.", yes.list.size()),
             Answer::No(_) => "Nothing was sent, and nothing moved.".to_string(),
         }
     }

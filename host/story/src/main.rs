@@ -59,8 +59,8 @@ fn play(options: &Options) -> Result<ExitCode, String> {
             (saved::wish(&room, &then, labels, &name)?, name)
         }
     };
-    let answer = answer::ask(&room, &wish)?;
     let paint = paint::Paint::for_output();
+    let answer = answer::ask(&room, &wish, |size| print(&text::size(size, paint)))?;
     print(&text::tell(&answer, &wish_name, options.all, paint));
     write(options, &answer)?;
     Ok(match answer {

@@ -1,8 +1,9 @@
-//! The answer as text: first the answer, then the list, then what changed.
+//! The answer as text: before it the size of the list, then the answer, the
+//! list, and what changed.
 
 use std::fmt::Write;
 
-use egrivundo::Kind;
+use egrivundo::{Kind, Size};
 
 use crate::answer::{Answer, Changed, Hindrance, Row, Yes};
 use crate::paint::Paint;
@@ -14,14 +15,22 @@ macro_rules! say {
     ($out:expr, $($what:tt)*) => { writeln!($out, $($what)*).unwrap() };
 }
 
-/// The whole of it; `wish_name` is the file that has the wish.
+/// What the list takes, told before it is written.
+pub fn size(size: Size, paint: Paint) -> String {
+    let size = paint.title(&size.to_string());
+    format!("This takes {size}.\n")
+}
+
+/// All the rest; `wish_name` is the file that has the wish.
 pub fn tell(answer: &Answer, wish_name: &str, all: bool, paint: Paint) -> String {
     let mut out = String::new();
-    let word = match answer {
-        Answer::Yes(_) => paint.yes(answer.word()),
-        Answer::No(_) => paint.no(answer.word()),
-    };
-    say!(out, "{word}: {} {}", answer.sentence(), answer.measure());
+    let (word, sentence) = (answer.word(), answer.sentence());
+    match answer {
+        Answer::Yes(_) => say!(out, "{}: {sentence}", paint.yes(word)),
+        Answer::No(_) => {
+            say!(out, "{}: {sentence} {}", paint.no(word), answer.measure());
+        }
+    }
     match answer {
         Answer::Yes(yes) => {
             list(&mut out, yes, paint);

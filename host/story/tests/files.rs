@@ -29,7 +29,7 @@ fn forms_that_are_taken() {
     assert_eq!(plain.0, Some(0), "{}", plain.2);
     assert!(plain
         .1
-        .starts_with("Yes: 4 parameters of T #1 and M moved, 12 others did not."));
+        .contains("\nYes: 4 parameters of T #1 and M moved, 12 others did not.\n"));
     let loose = play(
         "loose",
         b"\xEF\xBB\xBFmodule\t1\t\"T #1\"  # the first\r\n\t>1\t=\t-6.5 # it was -4\r\n>2=O\r\n\

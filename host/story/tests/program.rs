@@ -12,7 +12,8 @@ fn the_example() {
     let (status, text, errors) = story(&[&files[0], &files[1]]);
     assert_eq!((status, &errors[..]), (Some(0), ""));
     let expected = "\
-Yes: 4 parameters of Commentary moved, 52 others did not. 82 bytes, 4 lines.
+This takes 82 bytes, 4 lines.
+Yes: 4 parameters of Commentary moved, 52 others did not.
 
 The list, with the replies
   SA\"Commentary\">1=-4     ACK
@@ -43,7 +44,8 @@ fn a_desk() {
     let files = [example("outside-broadcast.room"), example("desk.wish")];
     let (status, text, _) = story(&[&files[0], &files[1]]);
     assert_eq!(status, Some(0));
-    let first = "Yes: 6 parameters of Desk moved, 102 others did not. 107 bytes, 6 lines.\n";
+    let first = "This takes 107 bytes, 6 lines.\n\
+                 Yes: 6 parameters of Desk moved, 102 others did not.\n";
     assert!(text.starts_with(first), "{text}");
     // Two words of which one output is turned, and one of which three are.
     for line in ["4>(2,1)=O", "4>(3,3)=F", "3>5=C0000000"] {
@@ -81,8 +83,8 @@ fn a_saved_room() {
     assert_eq!(text, by_wish);
     let two = ["--module", "Commentary", "--module", "Screen"];
     let (status, text, _) = story(&[&[&files[0][..], "--from", &then], &two[..]].concat());
-    let first = "Yes: 6 parameters of Commentary and Screen moved, 50 others did not. ";
-    assert!(status == Some(0) && text.starts_with(first), "{text}");
+    let answer = "\nYes: 6 parameters of Commentary and Screen moved, 50 others did not.\n";
+    assert!(status == Some(0) && text.contains(answer), "{text}");
 }
 
 #[test]
@@ -149,7 +151,9 @@ fn no() {
         let wish = folder.file("a.wish", wish);
         let (status, text, errors) = story(&[&room, &wish, "--list", &list]);
         assert_eq!((status, &errors[..]), (Some(1), ""));
+        // No size is told of what cannot be.
         assert_eq!(text.lines().next(), Some(first));
+        assert!(!text.contains("This takes"));
         assert!(text.contains(then), "{text}");
         assert!(text.contains("The core refuses with 7"));
         assert!(fs::metadata(&list).is_err(), "no list is written");
@@ -159,39 +163,45 @@ fn no() {
 #[test]
 fn one_and_many() {
     let folder = Folder::new("count");
-    for (room, wish, first) in [
+    for (room, wish, size, answer) in [
         (
             "module 2 \"S\"\nmodule 2 \"B\"\n",
             "module \"S\"\n1 = on\n",
-            "Yes: 1 parameter of S moved, 1 other did not. 10 bytes, 1 line.",
+            "This takes 10 bytes, 1 line.",
+            "Yes: 1 parameter of S moved, 1 other did not.",
         ),
         (
             "module 2 \"S\"\n",
             "module \"S\"\n1 = on\n",
-            "Yes: 1 parameter of S moved, there are no others. 10 bytes, 1 line.",
+            "This takes 10 bytes, 1 line.",
+            "Yes: 1 parameter of S moved, there are no others.",
         ),
         (
             "module 2 \"S\"\n",
             "module \"S\"\n1 = off\n",
-            "Yes: it is so already, and the 1 parameter did not move. 0 bytes, 0 lines.",
+            "This takes 0 bytes, 0 lines.",
+            "Yes: it is so already, and the 1 parameter did not move.",
         ),
         (
             "module 1 \"T\"\n",
             "# nothing\n",
-            "Yes: it is so already, and none of 6 parameters moved. 0 bytes, 0 lines.",
+            "This takes 0 bytes, 0 lines.",
+            "Yes: it is so already, and none of 6 parameters moved.",
         ),
         (
             "",
             "",
-            "Yes: the room is empty, and nothing moved. 0 bytes, 0 lines.",
+            "This takes 0 bytes, 0 lines.",
+            "Yes: the room is empty, and nothing moved.",
         ),
     ] {
         let (room, wish) = (folder.file("a.room", room), folder.file("a.wish", wish));
         let (status, text, _) = story(&[&room, &wish]);
-        assert_eq!((status, text.lines().next()), (Some(0), Some(first)));
+        let first: Vec<&str> = text.lines().take(2).collect();
+        assert_eq!((status, &first[..]), (Some(0), &[size, answer][..]));
         assert_eq!(
             text.contains("The list"),
-            first.contains(" moved, "),
+            answer.contains(" moved, "),
             "{text}"
         );
     }
@@ -212,10 +222,15 @@ fn the_list_as_bytes() {
                     SA\"Commentary\">5=-0.5\r";
     assert_eq!(fs::read(&list).unwrap(), expected.as_bytes());
     let nowhere = folder.path("no/such/folder");
-    let (status, _, errors) = story(&[&files[0], &files[1], "--list", &nowhere]);
+    let (status, text, errors) = story(&[&files[0], &files[1], "--list", &nowhere]);
     assert!(
         status == Some(1) && errors.starts_with(&nowhere),
         "{errors}"
+    );
+    // What it takes was told before.
+    assert!(
+        text.starts_with("This takes 82 bytes, 4 lines.\n"),
+        "{text}"
     );
 }
 

@@ -15,7 +15,8 @@ fn on_terminal(command: &str, variables: &[(&str, &str)]) -> Option<String> {
     let mut terminal = Command::new("script");
     terminal
         .args(["-qec", command, "/dev/null"])
-        .env_remove("NO_COLOR");
+        .env_remove("NO_COLOR")
+        .env_remove("EGRIVUNDO_ARCHIVE");
     terminal.env("TERM", "xterm").env("SHELL", "/bin/sh");
     terminal.envs(variables.iter().copied());
     match terminal.output() {
@@ -37,16 +38,13 @@ fn colour() {
     let Some(text) = on_terminal(&command, &[]) else {
         return;
     };
-    assert!(
-        text.starts_with("\x1b[1;32mYes\x1b[0m: 4 parameters of Commentary"),
-        "{text}"
-    );
+    let first = "This takes \x1b[1m82 bytes, 4 lines\x1b[0m.\r\n\
+                 \x1b[1;32mYes\x1b[0m: 4 parameters of Commentary";
+    assert!(text.starts_with(first), "{text}");
     for variable in [("NO_COLOR", "1"), ("TERM", "dumb")] {
         let text = on_terminal(&command, &[variable]).unwrap();
-        assert!(
-            text.starts_with("Yes: 4 parameters of Commentary"),
-            "{text}"
-        );
+        let first = "This takes 82 bytes, 4 lines.\r\nYes: 4 parameters of Commentary";
+        assert!(text.starts_with(first), "{text}");
         assert!(!text.contains('\x1b'));
     }
     // An empty NO_COLOR says nothing.

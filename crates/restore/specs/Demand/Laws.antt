@@ -26,15 +26,17 @@ use Rattle.restore.specs.Demand.Lines.{Lines}
 use Rattle.restore.specs.Demand.Lines.Promise.{promise}
 use Rattle.restore.specs.Demand.Lines.Reach.{Stays, keeps-unreachable}
 use Rattle.restore.specs.Demand.Lines.Price.{potential, lowers, price-reached, price-listing}
-use Rattle.wish.specs.Listing.{Admitted, changes, listing, allReachable, listNumber, restore, restoreNumber}
+use Rattle.wish.specs.Listing.{Admitted, changes, listing, allReachable, listNumber, restore, restoreNumber, size}
 use Rattle.wish.specs.Listing.Beyond.{wish-beyond}
 use Rattle.wish.specs.Listing.Counted.{lines-differing}
 use Rattle.wish.specs.Listing.Differing.{made-target, wish-differ, wish-finds}
 use Rattle.wish.specs.Listing.Numbers.{list-fits, list-long, list-unreachable, number-list}
 use Rattle.wish.specs.Listing.Reach.{all-sayable}
+use Rattle.wish.specs.Listing.Sizing.{size-beyond, size-refused, size-told, size-within}
 use Rattle.wish.specs.Listing.Telling.{listed-told, refused-told}
+use Rattle.restore.specs.Demand.Pair.{paired}
 use Rattle.restore.specs.Demand.Played.{listing-bytes, play-listing}
-use Rattle.restore.specs.Demand.{Fulfils, Shortest, Listed, Demanded, accepted, unreachable, no-room, DemandThree, tells, Restores, restores}
+use Rattle.restore.specs.Demand.{Fulfils, Shortest, Listed, SizeDemanded, within, beyond, Demanded, accepted, unreachable, no-room, DemandThree, SizeDemand, sizeTold, tells, Restores, restores, Sizes, sizes}
 use Rattle.restore.specs.declared.Restored.{Restored}
 
 -- the list of a wish
@@ -105,6 +107,14 @@ module _ (w : Wish) (lines : Lines (w .room)) (admitted : Admitted w) (replyRoom
         lines = lines-differing w;
       }
 
+  pub measured : SizeDemanded w replyRooms (size w)
+  unfolding list
+  measured = go (allReachable (w .room .table) (changes w)) refl
+    where
+      go : (r : Bool) → allReachable (w .room .table) (changes w) ≡ r → SizeDemanded w replyRooms (size w)
+      go false r = rw (size-refused w 7 (size-beyond w admitted r) (λ z. omega arith)) (beyond refl (none r))
+      go true r = rw (size-told w (size-within w admitted r)) (within refl (list w) (shortest r) refl (lines-differing w))
+
   pub demanded : (buffer : List ℕ) → Demanded w replyRooms (length buffer) (restore w buffer)
   unfolding list
   demanded buffer = go (allReachable (w .room .table) (changes w)) (leb (length (list w)) (length buffer)) refl refl
@@ -130,20 +140,32 @@ module _ (w : Wish) (lines : Lines (w .room)) (admitted : Admitted w) (replyRoom
 pub demand-three : (w : Wish) (buffer : List ℕ) → DemandThree w (length buffer) (restore w buffer)
 demand-three w buffer admitted replyRooms enough = demanded w (promise (w .room) (admitted .table)) admitted replyRooms enough buffer
 
--- so the restore call's promise is kept once it tells and writes what it should
-pub told-restores : (w : Wish) (buffer : List ℕ) (r : Restored) (buffer′ : List ℕ) → tells r buffer′ ≡ restore w buffer → Restores w buffer r buffer′
-told-restores w buffer r buffer′ e = restores e (rw e (demand-three w buffer))
+pub size-demand : (w : Wish) → SizeDemand w (size w)
+size-demand w admitted replyRooms enough = measured w (promise (w .room) (admitted .table)) admitted replyRooms enough
 
--- ---- the two parts of the promise
+-- so the writing call's promise is kept once it tells and writes what it should, and the size call's once it tells what it should
+pub told-restores : (w : Wish) (buffer : List ℕ) (r : Restored) (buffer′ : List ℕ) → tells r buffer′ ≡ restore w buffer → Restores w buffer r buffer′
+told-restores w buffer r buffer′ e = restores e (rw e (demand-three w buffer)) (rw e (paired w buffer))
+
+pub told-sizes : (w : Wish) (r : Restored) → sizeTold r ≡ size w → Sizes w r
+told-sizes w r e = sizes e (rw e (size-demand w))
+
+-- ---- the parts of the promises
 
 module _ {w : Wish} {buffer : List ℕ} {r : Restored} {buffer′ : List ℕ} where
   pub told-by : Restores w buffer r buffer′ → tells r buffer′ ≡ restore w buffer
-  told-by (restores told demand) = told
+  told-by (restores told demand pair) = told
 
   pub demand-by : Restores w buffer r buffer′ → DemandThree w (length buffer) (tells r buffer′)
-  demand-by (restores told demand) = demand
+  demand-by (restores told demand pair) = demand
 
   -- what is told, written out
   pub parts-by : Restores w buffer r buffer′ → record { number = r .number; bytes = r .bytes; lines = r .lines; buffer = buffer′ } ≡ restore w buffer
   unfolding tells
-  parts-by (restores told demand) = told
+  parts-by (restores told demand pair) = told
+
+pub size-by : {w : Wish} {r : Restored} → Sizes w r → sizeTold r ≡ size w
+size-by (sizes told demand) = told
+
+pub measured-by : {w : Wish} {r : Restored} → Sizes w r → SizeDemand w (sizeTold r)
+measured-by (sizes told demand) = demand

@@ -14,9 +14,11 @@ use Rattle.serial_port.specs.declared.port.Port.{Port}
 use Rattle.wish.specs.Target.{Wish, target}
 use Rattle.wish.specs.Listing.{Admitted, Told, restore}
 use Rattle.wish.specs.Listing.Admitting.{told-admits}
-use Rattle.restore.specs.Demand.{Fulfils, Listed, Demanded, accepted, unreachable, no-room, tells, Restores}
-use Rattle.restore.specs.Demand.Exactly.{exactly-seven, exactly-eight}
-use Rattle.restore.specs.Demand.Laws.{told-by, demand-by}
+use Rattle.wish.specs.Listing.Sizing.{size-admits}
+use Rattle.restore.specs.Demand.{Fulfils, Listed, Demanded, accepted, unreachable, no-room, sizeTold, tells, Restores, Sizes}
+use Rattle.restore.specs.Demand.Exactly.{exactly-seven, exactly-eight, size-exactly-seven, size-least}
+use Rattle.restore.specs.Demand.Laws.{told-by, demand-by, measured-by}
+use Rattle.restore.specs.Demand.Sized.{size-numbered}
 use Rattle.restore.specs.declared.Restored.{Restored}
 
 -- the calls cs play bs, as `Plays` says, on the wish's table, from the fresh port p and the present values on
@@ -34,7 +36,7 @@ pub record Fulfilling (w : Wish) (lines : ℕ) (p : Port) (cs : List Made) : Typ
   pub acknowledged : replies cs ≡ replicate lines ack
   pub ends : AsFresh (lastPort cs p)
 
--- what the answer r of a restore call, which was lent a list buffer of `room` bytes and left `buffer` in it, says of all such calls
+-- what the answer r of a writing call, which was lent a list buffer of `room` bytes and left `buffer` in it, says of all such calls
 pub record OverCalls (w : Wish) (room : ℕ) (r : Restored) (buffer : List ℕ) : Type 0 where
   -- accepted: calls that play the list told fulfil the wish, with as many ACKs as lines told
   pub listed : r .number ≡ 0 → (p : Port) (cs : List Made) → Playing w p cs (take (r .bytes) buffer) → Fulfilling w (r .lines) p cs
@@ -44,6 +46,13 @@ pub record OverCalls (w : Wish) (room : ℕ) (r : Restored) (buffer : List ℕ) 
   pub unreachable : r .number ≡ 7 → (p : Port) (cs : List Made) (bs : List ℕ) → Playing w p cs bs → Reaches w cs → ⊥
   -- refused with 8: calls that do are given more bytes than the list buffer has
   pub no-room : r .number ≡ 8 → (p : Port) (cs : List Made) (bs : List ℕ) → Playing w p cs bs → Reaches w cs → room < length bs
+
+-- what the answer r of a size call says of them
+pub record SizeOverCalls (w : Wish) (r : Restored) : Type 0 where
+  -- accepted: calls that reach the target, whatever they play, are given as many bytes as told or more
+  pub least : r .number ≡ 0 → (p : Port) (cs : List Made) (bs : List ℕ) → Playing w p cs bs → Reaches w cs → r .bytes ≤ length bs
+  -- refused with 7: no calls reach the target
+  pub unreachable : r .number ≡ 7 → (p : Port) (cs : List Made) (bs : List ℕ) → Playing w p cs bs → Reaches w cs → ⊥
 
 -- ---- calls that are made, as a play
 
@@ -70,7 +79,7 @@ accepted-listed w room a (accepted e l) z = l
 accepted-listed w room a (unreachable e none) z = absurd (omega arith)
 accepted-listed w room a (no-room e list s n) z = absurd (omega arith)
 
--- ---- the restore call's promise holds over them
+-- ---- the promises of the two restore calls hold over them
 
 module _ (w : Wish) (buffer : List ℕ) (r : Restored) (buffer′ : List ℕ) (promise : Restores w buffer r buffer′) where
   -- demand 3 speaks of a call that is refused with none of 1 to 6
@@ -109,3 +118,15 @@ module _ (w : Wish) (buffer : List ℕ) (r : Restored) (buffer′ : List ℕ) (p
             let l = exactly-eight w rooms (length buffer) (tells r buffer′) (demanded a) .0 z in
             omega (arith, l .long, l .shortest .least bs (fulfils w a p cs bs h e));
       }
+
+pub size-over-calls : (w : Wish) (r : Restored) → Sizes w r → SizeOverCalls w r
+unfolding sizeTold
+size-over-calls w r promise =
+    record {
+      least = λ z p cs bs h e.
+          let a = size-admits w (λ i j. omega (arith, size-numbered promise)) in
+          size-least w rooms (sizeTold r) (measured-by promise a rooms enough) z bs (fulfils w a p cs bs h e);
+      unreachable = λ z p cs bs h e.
+          let a = size-admits w (λ i j. omega (arith, size-numbered promise)) in
+          size-exactly-seven w rooms (sizeTold r) (measured-by promise a rooms enough) .0 z bs (fulfils w a p cs bs h e);
+    }

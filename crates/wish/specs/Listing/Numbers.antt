@@ -46,20 +46,20 @@ module _ (r : Room) (selection : List ℕ) (ws : List ℤ) where
   passed-wanted e = passed-test (wantedRight r selection ws) 5 e
 
 module _ (t : List ℕ) (cs : List Change) where
-  reach-passed : allReachable t cs ≡ true → reachNumber t cs ≡ 0
+  pub reach-passed : allReachable t cs ≡ true → reachNumber t cs ≡ 0
   unfolding reachNumber
   reach-passed r = test-passed (allReachable t cs) 7 r
 
-  reach-refused : allReachable t cs ≡ false → reachNumber t cs ≡ 7
+  pub reach-refused : allReachable t cs ≡ false → reachNumber t cs ≡ 7
   unfolding reachNumber
   reach-refused r = test-refused (allReachable t cs) 7 r
 
 module _ (t : List ℕ) (room : ℕ) (cs : List Change) where
-  space-passed : length (listing t cs) ≤ room → spaceNumber t room cs ≡ 0
+  pub space-passed : length (listing t cs) ≤ room → spaceNumber t room cs ≡ 0
   unfolding spaceNumber
   space-passed h = test-passed (leb (length (listing t cs)) room) 8 (le-leb (length (listing t cs)) room h)
 
-  space-refused : room < length (listing t cs) → spaceNumber t room cs ≡ 8
+  pub space-refused : room < length (listing t cs) → spaceNumber t room cs ≡ 8
   unfolding spaceNumber
   space-refused h = test-refused (leb (length (listing t cs)) room) 8 (lt-leb (length (listing t cs)) room h)
 
@@ -85,7 +85,7 @@ module _ (w : Wish) where
         wanted = passed-wanted (w .room) (w .selection) (w .wanted) (d .0);
       }
 
-  admits-test : Admitted w → testNumber w ≡ 0
+  pub admits-test : Admitted w → testNumber w ≡ 0
   unfolding testNumber
   admits-test a =
       first-by

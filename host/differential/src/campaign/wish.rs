@@ -1,10 +1,11 @@
-//! A wish, its restore list, and the list played.
+//! A wish, the size of its restore list, the list, and the list played.
 
-use crate::compare::{Compare, Difference, Sides, USUAL};
+use crate::compare::{Compare, Difference, Sides, Wish, USUAL};
 use crate::rng::Rng;
 use crate::rooms;
 
-/// Asks for a list, with buffers around its length, and plays it.
+/// Asks for a list's size and for the list, with buffers around its length,
+/// and plays it.
 pub fn ask(
     rng: &mut Rng,
     compare: &mut Compare,
@@ -13,32 +14,22 @@ pub fn ask(
 ) -> Result<(), Difference> {
     let selection = rooms::selection(rng, room);
     let wanted = rooms::wanted(rng, room, present, &selection);
-    let length = match rng.below(6) {
+    let wish = Wish {
+        table: &room.table,
+        present,
+        selection: &selection,
+        wanted: &wanted,
+    };
+    // No list is longer than this.
+    let longest = present.len() * 51;
+    let other = match rng.below(6) {
         0 => rng.below(100),
-        _ => present.len() * 51 + rng.below(3),
+        1 => rng.below(longest + 1),
+        _ => longest + rng.below(3),
     };
-    let mut ask = |rng: &mut Rng, length: usize| {
-        compare.restore(rng, &room.table, present, &selection, &wanted, length)
-    };
-    let Ok((list, count)) = ask(rng, length)? else {
+    let Ok((list, count)) = compare.restore(rng, wish, &[other])? else {
         return Ok(());
     };
-    for length in list.len().saturating_sub(2)..list.len() + 3 {
-        let answer = ask(rng, length)?;
-        let expected = if length < list.len() {
-            Err(8)
-        } else {
-            Ok((list.clone(), count))
-        };
-        if answer != expected {
-            return Err(format!(
-                "restore: a buffer of {length} for {} bytes",
-                list.len()
-            ));
-        }
-    }
-    let short = rng.below(list.len() + 1);
-    let _ = ask(rng, short)?;
     // A long list on a large room is played only now and then.
     if count * present.len() > 20_000 && !rng.once_in(20) {
         return Ok(());

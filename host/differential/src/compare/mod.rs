@@ -23,6 +23,8 @@ mod restore;
 mod table;
 mod written;
 
+pub use restore::Wish;
+
 /// What went wrong, in words.
 pub type Difference = String;
 
@@ -90,7 +92,7 @@ pub struct Fed {
     pub cause: usize,
 }
 
-/// Bytes of a usual reply or list buffer.
+/// Bytes of a usual reply buffer.
 pub const USUAL: usize = 64;
 
 fn number(answer: u8) -> &'static str {

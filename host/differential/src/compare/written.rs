@@ -1,4 +1,4 @@
-//! What a port or restore call writes beside values and port.
+//! What a call writes beside values and port.
 
 use super::Difference;
 use crate::lent::Lent;

@@ -1,6 +1,6 @@
 //! Tables, ports, logs, and each value.
 
-use super::{fixed, index, line, module, FRESH};
+use super::{fixed, index, line, module, wish, FRESH};
 use crate::compare::{Compare, Difference, Sides, USUAL};
 use crate::rng::Rng;
 use reference::layout::Layout;
@@ -99,8 +99,8 @@ pub fn values(compare: &mut Compare) -> Result<(), Difference> {
             for value in row.low - 12..=row.high + 12 {
                 room.1[place] = value;
                 line(compare, &room, get.as_bytes())?;
-                let _ = compare.restore(rng, &table, &start, &[1], &room.1, USUAL)?;
-                let _ = compare.restore(rng, &table, &room.1, &[1], &start, USUAL)?;
+                wish(compare, rng, &table, (&start, &room.1))?;
+                wish(compare, rng, &table, (&room.1, &start))?;
             }
         }
     }

@@ -1,7 +1,7 @@
 //! Mixers: their tables, their words, and the lists that restore these.
 
-use super::{line, module};
-use crate::compare::{Compare, Difference, USUAL};
+use super::{line, module, wish};
+use crate::compare::{Compare, Difference};
 use crate::rng::Rng;
 use crate::rooms::{record, SIZES};
 use reference::layout::Layout;
@@ -49,8 +49,7 @@ pub fn words(compare: &mut Compare) -> Result<(), Difference> {
     Ok(())
 }
 
-/// Lists for words that differ in no, one, two or all outputs, with buffers
-/// of their length and of a byte less.
+/// Lists for words that differ in no, one, two or all outputs.
 pub fn lists(compare: &mut Compare) -> Result<(), Difference> {
     let rng = &mut Rng::new(5, 5);
     for (inputs, outputs) in SIZES.iter().flat_map(|&m| SIZES.map(|n| (m, n))) {
@@ -63,11 +62,7 @@ pub fn lists(compare: &mut Compare) -> Result<(), Difference> {
                 let (mut from, mut to) = (start.clone(), start.clone());
                 from[place] = present;
                 to[place] = present ^ mask;
-                let list = compare.restore(rng, &table, &from, &[1], &to, USUAL)?;
-                let length = list.map_or(0, |(list, _)| list.len());
-                for room in length.saturating_sub(1)..=length {
-                    let _ = compare.restore(rng, &table, &from, &[1], &to, room)?;
-                }
+                wish(compare, rng, &table, (&from, &to))?;
             }
         }
     }

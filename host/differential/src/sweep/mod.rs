@@ -5,10 +5,11 @@ mod lines;
 mod mixers;
 mod pairs;
 mod panels;
+mod wishes;
 
 use std::panic::{catch_unwind, AssertUnwindSafe};
 
-use crate::compare::{Compare, Difference, Sides, USUAL};
+use crate::compare::{Compare, Difference, Sides, Wish, USUAL};
 use crate::report::Report;
 use crate::rng::Rng;
 use crate::rooms::record;
@@ -29,6 +30,9 @@ pub fn sweep(left: &Calls, right: &Calls) -> Report {
         panels::numbers(&mut compare)?;
         panels::labels(&mut compare)?;
         panels::words(&mut compare)?;
+        wishes::refusals(&mut compare)?;
+        wishes::lengths(&mut compare)?;
+        wishes::long(&mut compare)?;
         calls::ports(&mut compare)?;
         lines::indices(&mut compare)?;
         pairs::forms(&mut compare)?;
@@ -69,5 +73,22 @@ fn line(compare: &mut Compare, room: &(Vec<u8>, Vec<i64>), line: &[u8]) -> Resul
     let given = [line, b"\r"].concat();
     let rng = &mut Rng::new(1, 1);
     compare.port(rng, &room.0, &mut sides, &given, USUAL)?;
+    Ok(())
+}
+
+/// The list that takes a table's one module from some values to others.
+fn wish(
+    compare: &mut Compare,
+    rng: &mut Rng,
+    table: &[u8],
+    (present, wanted): (&[i64], &[i64]),
+) -> Result<(), Difference> {
+    let wish = Wish {
+        table,
+        present,
+        selection: &[1],
+        wanted,
+    };
+    let _ = compare.restore(rng, wish, &[])?;
     Ok(())
 }

@@ -2,7 +2,7 @@
 
 use std::convert::Infallible;
 
-use crate::{bit, Index, List, Module, Refusal, Room};
+use crate::{bit, Index, List, Module, Refusal, Room, Size};
 
 mod error;
 mod reach;
@@ -144,12 +144,27 @@ impl<'a> Wish<'a> {
         Ok(wish)
     }
 
+    /// The size of the shortest list that fulfils the wish, for which no buffer
+    /// is taken. Refused as the list is.
+    ///
+    /// ```
+    /// use egrivundo::{Room, Type, Wish};
+    ///
+    /// let room = Room::new(&[(Type::SmartBass, "Bass")])?;
+    /// let wish = Wish::from_present(&room).set("Bass", 1, 1)?;
+    /// assert_eq!(wish.size()?.to_string(), "13 bytes, 1 line");
+    /// # Ok::<(), Box<dyn std::error::Error>>(())
+    /// ```
+    pub fn size(&self) -> Result<Size, Refusal> {
+        self.room.restore_size(&self.selection, &self.wanted)
+    }
+
     /// The shortest list that fulfils the wish and moves nothing else.
     ///
     /// Refused with [`Refusal::Reach`] where [`Wish::beyond_reach`] is not
     /// empty.
     pub fn list(&self) -> Result<List, Refusal> {
-        self.room.restore(&self.selection, &self.wanted)
+        self.room.put_back(&self.selection, &self.wanted)
     }
 
     /// One byte for each module: 1 for a chosen one.

@@ -135,7 +135,21 @@ impl Room {
         self.panel_into(64, owner, row, value)
     }
 
-    pub fn restore(
+    /// Bytes and lines of a wish's list.
+    pub fn restore_size(&self, selection: &[u8], wanted: &[i64]) -> Result<(usize, u64), u8> {
+        let mut told = [9; 2];
+        let answer =
+            reference::restore_size(&self.table, &self.values, selection, wanted, &mut told);
+        if answer != 0 {
+            assert_eq!(told, [0, 0]);
+            return Err(answer);
+        }
+        Ok((told[0] as usize, told[1]))
+    }
+
+    /// The list and its lines, with so many bytes for it. The size call is
+    /// asked too, and what it tells must fit.
+    pub fn restore_write(
         &self,
         selection: &[u8],
         wanted: &[i64],
@@ -143,7 +157,7 @@ impl Room {
     ) -> Result<(Vec<u8>, u64), u8> {
         let mut list = vec![0xEE; room];
         let mut told = [9; 2];
-        let answer = reference::restore(
+        let answer = reference::restore_write(
             &self.table,
             &self.values,
             selection,
@@ -151,13 +165,19 @@ impl Room {
             &mut list,
             &mut told,
         );
+        let counts = (told[0] as usize, told[1]);
+        match self.restore_size(selection, wanted) {
+            Err(refusal) => assert_eq!(answer, refusal),
+            Ok((bytes, _)) if room < bytes => assert_eq!(answer, 8),
+            Ok(size) => assert_eq!((answer, counts), (0, size)),
+        }
         if answer != 0 {
             assert_eq!(told, [0, 0]);
             assert!(list.iter().all(|&byte| byte == 0xEE));
             return Err(answer);
         }
-        assert!(list[told[0] as usize..].iter().all(|&byte| byte == 0xEE));
-        list.truncate(told[0] as usize);
+        assert!(list[counts.0..].iter().all(|&byte| byte == 0xEE));
+        list.truncate(counts.0);
         Ok((list, told[1]))
     }
 }

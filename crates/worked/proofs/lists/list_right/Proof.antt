@@ -8,7 +8,7 @@ pub list-right-spec : {M : Type 1} → statement M
 list-right-spec =
     tie.close
     (tie.spec
-    (λ c κs. search needs)  -- restore-requires
+    (λ c κs. search needs)  -- restore-write-requires
     (λ c κs. search needs)  -- told-right-requires
     (λ c. search needs)  -- same-length
     (λ c. search (call-compared, needs)))  -- returns

@@ -6,88 +6,12 @@
 //!
 //! [`Refusal`]: crate::Refusal
 
-// The one place with unsafe code.
+// This module is the one place with unsafe code.
 #![allow(unsafe_code)]
 
-// As in `include/egrivundo.h`.
-extern "C" {
-    fn egrivundo_table(table: *const u8, table_count: usize) -> u8;
+mod declared;
 
-    fn egrivundo_log(
-        table: *const u8,
-        table_count: usize,
-        line: *const u8,
-        line_count: usize,
-        told: *mut [u64; 3],
-    );
-
-    fn egrivundo_port(
-        table: *const u8,
-        table_count: usize,
-        values: *mut i64,
-        values_count: usize,
-        port: *mut [u8; 66],
-        given: *const u8,
-        given_count: usize,
-        reply: *mut u8,
-        reply_count: usize,
-        told: *mut [u64; 4],
-    ) -> u8;
-
-    fn egrivundo_panel(
-        table: *const u8,
-        table_count: usize,
-        values: *mut i64,
-        values_count: usize,
-        owner: u64,
-        row: u64,
-        value: i64,
-        reply: *mut u8,
-        reply_count: usize,
-        told: *mut [u64; 1],
-    ) -> u8;
-
-    fn egrivundo_restore(
-        table: *const u8,
-        table_count: usize,
-        present: *const i64,
-        present_count: usize,
-        selection: *const u8,
-        selection_count: usize,
-        wanted: *const i64,
-        wanted_count: usize,
-        list: *mut u8,
-        list_count: usize,
-        told: *mut [u64; 2],
-    ) -> u8;
-
-    fn egrivundo_value_count(table: *const u8, table_count: usize, told: *mut [u64; 1]) -> u8;
-
-    fn egrivundo_starts(
-        table: *const u8,
-        table_count: usize,
-        values: *mut i64,
-        values_count: usize,
-    ) -> u8;
-
-    fn egrivundo_place(
-        table: *const u8,
-        table_count: usize,
-        owner: u64,
-        row: u64,
-        told: *mut [u64; 1],
-    ) -> u8;
-
-    fn egrivundo_row(
-        table: *const u8,
-        table_count: usize,
-        owner: u64,
-        row: u64,
-        told: *mut [i64; 7],
-    ) -> u8;
-
-    fn egrivundo_refusal(number: u8, text: *mut [u8; 64]);
-}
+use declared::*;
 
 // Safety of all: each pointer and count come from one slice, and each
 // pointer alone from a block of the size that the call takes, so they are
@@ -203,10 +127,46 @@ pub fn panel(
     }
 }
 
-/// The restore list. `told` becomes its bytes and lines.
+/// The size of the restore list. `told` becomes its bytes and lines. There is
+/// no buffer, so the answer is never 8.
+///
+/// ```
+/// let mut table = [0; 33];
+/// table[..2].copy_from_slice(b"\x02S");
+/// let mut told = [9; 2];
+/// let answer = egrivundo::calls::restore_size(&table, &[0], &[1], &[1], &mut told);
+/// assert_eq!((answer, told), (0, [10, 1]));
+/// ```
 #[inline]
 #[must_use = "0 is accepted, any other number refused"]
-pub fn restore(
+pub fn restore_size(
+    table: &[u8],
+    present: &[i64],
+    selection: &[u8],
+    wanted: &[i64],
+    told: &mut [u64; 2],
+) -> u8 {
+    unsafe {
+        egrivundo_restore_size(
+            table.as_ptr(),
+            table.len(),
+            present.as_ptr(),
+            present.len(),
+            selection.as_ptr(),
+            selection.len(),
+            wanted.as_ptr(),
+            wanted.len(),
+            told,
+        )
+    }
+}
+
+/// The restore list, put at the start of `list`. `told` becomes its bytes and
+/// lines, which are those that [`restore_size`] tells of the same; the answer
+/// is 8 exactly where `list` is shorter.
+#[inline]
+#[must_use = "0 is accepted, any other number refused"]
+pub fn restore_write(
     table: &[u8],
     present: &[i64],
     selection: &[u8],
@@ -215,7 +175,7 @@ pub fn restore(
     told: &mut [u64; 2],
 ) -> u8 {
     unsafe {
-        egrivundo_restore(
+        egrivundo_restore_write(
             table.as_ptr(),
             table.len(),
             present.as_ptr(),
