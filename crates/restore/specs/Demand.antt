@@ -10,6 +10,7 @@ pub mod Rules
 pub mod Sized
 pub mod Telling
 pub mod Testing
+pub mod Turns
 use mathlib.Core.Path.{_≡_}
 use mathlib.Core.Bool.{true, false}
 use mathlib.Core.Logic.{_↔_}
