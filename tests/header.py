@@ -89,6 +89,22 @@ for count, cause in ((limit["HELD_BYTES"], 2), (limit["HELD_BYTES"] + 1, 1)):
     call((ctypes.c_uint8 * 66)(), b"x" * count + b"\r", 64)
     expect(told[2] == cause, f"a line of {count} bytes")
 
+# A row of connections: its bytes, the last of them, and what a turn tells.
+count, size, all_bytes, misfit = (limit[name] for name in ("CONNECTIONS", "CONNECTION_BYTES", "CONNECTIONS_BYTES", "REFUSED_CONNECTIONS"))
+fresh_row = bytes(all_bytes)
+one_open = bytes((count - 1) * size) + bytes([1]) + bytes(size - 1)
+expect(library.switch("open", fresh_row, count - 1) == (0, one_open), "the last connection is opened")
+expect(library.switch("close", one_open, count - 1) == (0, fresh_row), "the last connection is closed")
+for call, row, number in (("open", fresh_row, count), ("open", fresh_row[1:], 0), ("open", fresh_row + b"\0", 0), ("open", one_open, count - 1), ("close", one_open, 0)):
+    expect(library.switch(call, row, number) == (misfit, row), f"{call} {number} of {len(row)} bytes")
+waits = [0] * (count - 1) + [8]
+for last in (0, count - 1):
+    answer, row, reply, told_numbers = library.turn(table, [0], one_open, last, b'GA"S">1\r', waits)
+    expect((answer, row, reply) == (0, one_open, b'GA"S">1=F\r') and told_numbers == [1, count - 1, 8, 10, 0, 0] + [9] * (7 - limit["TURN_TOLD"]), f"a turn after {last}")
+for row, last, counts in ((one_open[1:], 0, waits), (one_open, count, waits), (one_open, 0, waits[1:]), (one_open, 0, [0] * count)):
+    answer, after, reply, told_numbers = library.turn(table, [0], row, last, b'GA"S">1\r', counts)
+    expect((answer, after, told_numbers[:limit["TURN_TOLD"]]) == (misfit, row, [0] * limit["TURN_TOLD"]), f"a turn over {len(row)} bytes after {last} with {len(counts)} counts")
+
 # A panel change: its buffer, and the longest answer that it tells, that of the last input's word under the longest label.
 most = limit["ROWS"] - 1
 for size, answer in ((limit["REPLY_BYTES"] - 1, 3), (limit["REPLY_BYTES"], 0)):

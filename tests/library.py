@@ -13,7 +13,7 @@ PATH = pathlib.Path(os.environ.get("EGRIVUNDO_SHARED", ROOT / "target/c/libegriv
 if not PATH.exists():
     sys.exit(f"{PATH} is missing: run `make`")
 library = ctypes.CDLL(str(PATH))
-for call in ("table", "port", "panel", "restore_size", "restore_write", "value_count", "starts", "place", "row"):
+for call in ("table", "port", "turn", "open", "close", "panel", "restore_size", "restore_write", "value_count", "starts", "place", "row"):
     getattr(library, f"egrivundo_{call}").restype = ctypes.c_uint8
 
 
@@ -32,6 +32,21 @@ def feed(table, values, given):
     reply, told = (ctypes.c_uint8 * 64)(), (ctypes.c_uint64 * 4)()
     answer = library.egrivundo_port(*lent(ctypes.c_uint8, table), numbers, count, (ctypes.c_uint8 * 66)(), *lent(ctypes.c_uint8, given), reply, ctypes.c_size_t(64), told)
     return answer, list(numbers)[:len(values)], bytes(reply)[:told[1]]
+
+
+def switch(call, row, number):
+    """Opening or closing a connection: the answer, and the row's bytes afterwards."""
+    held, count = lent(ctypes.c_uint8, row)
+    return getattr(library, f"egrivundo_{call}")(held, count, ctypes.c_uint64(number)), bytes(held)[:len(row)]
+
+
+def turn(table, values, row, last, given, counts):
+    """A turn: the answer, the row's bytes afterwards, the reply, and the numbers told, with one more behind them that must stay 9."""
+    held, count = lent(ctypes.c_uint8, row)
+    reply, told = (ctypes.c_uint8 * 64)(), (ctypes.c_uint64 * 7)(*[9] * 7)
+    answer = library.egrivundo_turn(*lent(ctypes.c_uint8, table), *lent(ctypes.c_int64, values), held, count, ctypes.c_uint64(last),
+                                    *lent(ctypes.c_uint8, given), *lent(ctypes.c_uint64, counts), reply, ctypes.c_size_t(64), told)
+    return answer, bytes(held)[:len(row)], bytes(reply)[:told[3]], list(told)
 
 
 def panel(table, values, owner, row, value, room=64):

@@ -8,6 +8,8 @@ law, where it changes specs/. Asked is:
   specs/ is changed, the laws named are among those refused;
 - each is refused at its promise: what the function ensures, or the invariant of its loop. A refusal at what a callee requires, at a side fact (an index, a sum, the bounds of a
   part) or because the proof file no longer fits the code shows less than the edit says. A program's `main` has no promise: it is refused at what a callee requires;
+- a function over a lent row of structs is proved by a walk of its code (`denote.Triple.Walked`). Its wrong program is refused within that walk, at the step that the code no longer takes. This shows that
+  the proof sees the change, and less than a refusal at the promise: it does not rule out another walk of the wrong program;
 - every function that other crates or C can call has two wrong programs of its own;
 - docs/WRONG-PROGRAMS.md names each wrong program, and no other.
 
@@ -23,7 +25,7 @@ root = pathlib.Path(arguments[0] if arguments else pathlib.Path(__file__).parent
 edits = sorted(root.glob("crates/*/must-fail/*.edit"))
 faults = []
 
-PROMISE, INVARIANT, LAW = "the promise", "the invariant", "the law"
+PROMISE, INVARIANT, LAW, WALK = "the promise", "the invariant", "the law", "the walk"
 REQUIRES, SIDE, UNFIT = "a callee's requires", "a side fact", "an unfit proof file"
 
 
@@ -50,6 +52,12 @@ def goal_place(need, words):
     return REQUIRES if goal.endswith(".Asked") else SIDE
 
 
+def walked(crate, file):
+    """Whether this is the proof file of a function that is proved by a walk of its code."""
+    proof = crate / "proofs" / file.rpartition("/proofs/")[2]
+    return proof.name == "Proof.antt" and proof.exists() and "use denote.Triple.Walked." in proof.read_text()
+
+
 def need_place(need):
     """Where a function without a proof file is refused, by the name of what was left."""
     return PROMISE if need.startswith("returns") else REQUIRES if "-requires" in need else SIDE
@@ -66,7 +74,8 @@ def refusals(edit):
         if "/specs/" in file:
             places.setdefault(name, LAW)
         elif "/proofs/" in file:
-            places.setdefault(pathlib.Path(file).parent.name.removeprefix("+"), goal_place(name, words))
+            place = WALK if walked(edit.parent.parent, file) else goal_place(name, words)
+            places.setdefault(pathlib.Path(file).parent.name.removeprefix("+"), place)
     for function, need in re.findall(r"^fn \S*?(\w+): (?:not proved$|no proof: .*does not close `([\w-]+)`)", log, re.M):
         places.setdefault(function, need_place(need) if need else SIDE)
     return places
@@ -90,8 +99,8 @@ for edit in edits:
     for name, what in wrong.items():
         place = places.get(what, "nothing")
         found[crate.name, name] = place
-        own[crate.name, what] += place in (PROMISE, INVARIANT)
-        if place not in (PROMISE, INVARIANT, LAW) and (what, place) != ("main", REQUIRES):
+        own[crate.name, what] += place in (PROMISE, INVARIANT, WALK)
+        if place not in (PROMISE, INVARIANT, LAW, WALK) and (what, place) != ("main", REQUIRES):
             faults.append(f"{label}: {name} is refused at {place}")
         if "--where" in sys.argv:
             print(f"{crate.name}/{edit.stem}: {name}, of {what}: {place}")

@@ -1,4 +1,4 @@
-/* The worked lines on table A, some to a mixer, and panel changes, from C. Says "ok" or what is wrong. */
+/* The worked lines on table A, some to a mixer, panel changes, and turns, from C. Says "ok" or what is wrong. */
 
 #include <stdio.h>
 #include <string.h>
@@ -197,6 +197,46 @@ static void turned(uint64_t owner, uint64_t row, int64_t value, uint8_t right, c
            "what is told of a panel change");
 }
 
+/* Panels 2 and 5 are open, 7 is closed, and all three have sent a line: each turn serves the next that waits. */
+static void turns(void)
+{
+    static const char waiting[] = "GA\"S\">1\r" "GA\"T\">1\r" "SA\"S\">1=O\r";
+    const uint64_t counts[EGRIVUNDO_CONNECTIONS] = {[2] = 8, [5] = 8, [7] = 10};
+    const uint64_t closed[EGRIVUNDO_CONNECTIONS] = {[7] = 10};
+    const uint8_t *given = (const uint8_t *)waiting;
+    size_t given_count = strlen(waiting);
+    int64_t values[7] = {0};
+    uint8_t row[EGRIVUNDO_CONNECTIONS_BYTES] = {0};
+    uint8_t before[sizeof row], buffer[EGRIVUNDO_REPLY_BYTES] = {0};
+    uint64_t told[EGRIVUNDO_TURN_TOLD] = {9, 9, 9, 9, 9, 9};
+    uint64_t last = EGRIVUNDO_CONNECTIONS - 1;
+    uint8_t answer;
+    expect(egrivundo_open(row, sizeof row, 2) == EGRIVUNDO_OK, "a connection is opened");
+    expect(egrivundo_open(row, sizeof row, 5) == EGRIVUNDO_OK, "another is opened");
+    expect(egrivundo_open(row, sizeof row, 5) == EGRIVUNDO_REFUSED_CONNECTIONS, "an open one");
+    expect(egrivundo_close(row, sizeof row, 7) == EGRIVUNDO_REFUSED_CONNECTIONS, "a closed one");
+    memcpy(before, row, sizeof row);
+    answer = egrivundo_turn(table, sizeof table, values, 7, row, sizeof row, last, given,
+                            given_count, counts, EGRIVUNDO_CONNECTIONS, buffer, 64, told);
+    expect(answer == EGRIVUNDO_OK && told[0] == 1 && told[1] == 2, "the first turn");
+    expect(told[2] == 8 && told[3] == 10 && told[4] == 0 && told[5] == 0, "what it tells");
+    expect(memcmp(buffer, "GA\"S\">1=F\r", 10) == 0, "its reply");
+    last = told[1];
+    answer = egrivundo_turn(table, sizeof table, values, 7, row, sizeof row, last, given,
+                            given_count, counts, EGRIVUNDO_CONNECTIONS, buffer, 64, told);
+    expect(answer == EGRIVUNDO_OK && told[0] == 1 && told[1] == 5, "the second turn");
+    expect(memcmp(buffer, "GA\"T\">1=0\r", 10) == 0, "its reply");
+    last = told[1];
+    answer = egrivundo_turn(table, sizeof table, values, 7, row, sizeof row, last, given + 16, 10,
+                            closed, EGRIVUNDO_CONNECTIONS, buffer, 64, told);
+    expect(answer == EGRIVUNDO_OK && told[0] == 0 && told[1] == 0, "nobody waits");
+    expect(told[2] == 0 && told[3] == 0 && values[6] == 0, "a closed one is passed over");
+    answer = egrivundo_turn(table, sizeof table, values, 7, row, sizeof row, last, given, 16,
+                            closed, EGRIVUNDO_CONNECTIONS, buffer, 64, told);
+    expect(answer == EGRIVUNDO_REFUSED_CONNECTIONS, "counts that do not add up");
+    expect(memcmp(row, before, sizeof row) == 0, "both ports are fresh again");
+}
+
 int main(void)
 {
     table[0] = EGRIVUNDO_TONE_CONTROL_EQ;
@@ -243,6 +283,7 @@ int main(void)
     turned(UINT64_MAX, UINT64_MAX, 0, EGRIVUNDO_REFUSED_ROW, "");
     sizes();
     restores();
+    turns();
     overrun();
     show();
     if (!wrong) {

@@ -25,7 +25,8 @@ fn main() {
         writeln!(
             list,
             "Planted {{ name: {name:?}, about: {about:?}, calls: Calls {{ table: {name}::table, \
-             port: {name}::port, panel: {name}::panel, restore_size: {name}::restore_size, \
+             port: {name}::port, panel: {name}::panel, turn: {name}::turn, open: {name}::open, \
+             close: {name}::close, restore_size: {name}::restore_size, \
              restore_write: {name}::restore_write, log: {name}::log }} }},"
         )
         .unwrap();

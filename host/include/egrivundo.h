@@ -33,9 +33,9 @@ extern "C" {
 
 /* The version. Another major or minor number may have other calls, or other
  * parameters in the same calls; the shared library's soname has both. */
-#define EGRIVUNDO_VERSION "0.6.0"
+#define EGRIVUNDO_VERSION "0.7.0"
 #define EGRIVUNDO_VERSION_MAJOR 0
-#define EGRIVUNDO_VERSION_MINOR 6
+#define EGRIVUNDO_VERSION_MINOR 7
 #define EGRIVUNDO_VERSION_PATCH 0
 
 /* Limits. */
@@ -54,7 +54,11 @@ extern "C" {
                                          * 0x0D, at most                      */
 #define EGRIVUNDO_PORT_BYTES 66         /* of a port: held count, overrun,
                                          * bytes                              */
+#define EGRIVUNDO_CONNECTIONS 32        /* of a box, always                   */
+#define EGRIVUNDO_CONNECTION_BYTES 67   /* of a connection: open, port        */
+#define EGRIVUNDO_CONNECTIONS_BYTES 2144 /* of all 32                         */
 #define EGRIVUNDO_PORT_TOLD 4           /* numbers told by the port call      */
+#define EGRIVUNDO_TURN_TOLD 6           /* numbers told by a turn             */
 #define EGRIVUNDO_PANEL_TOLD 1          /* numbers told by the panel call     */
 #define EGRIVUNDO_RESTORE_TOLD 2        /* numbers told by each restore call  */
 #define EGRIVUNDO_LOG_TOLD 3            /* numbers told by the log call       */
@@ -142,7 +146,7 @@ extern "C" {
  * Lines name one bit by 4>(i,o), which is no row and has no value of its own.
  */
 
-/* Answers. With 1 to 9 the told numbers become 0 and nothing else changes;
+/* Answers. With 1 to 10 the told numbers become 0 and nothing else changes;
  * where several apply, the first in its call's order is given. */
 #define EGRIVUNDO_OK 0                /* accepted                             */
 #define EGRIVUNDO_REFUSED_TABLE 1     /* the table is not sound               */
@@ -160,6 +164,11 @@ extern "C" {
 #define EGRIVUNDO_REFUSED_ROW 9       /* there is no such module or row; of a
                                        * change also: the row is read-only, or
                                        * the value is not permitted           */
+#define EGRIVUNDO_REFUSED_CONNECTIONS 10 /* not the bytes of 32 connections;
+                                       * not 32 counts, or they do not add up
+                                       * to the bytes given; a number or last
+                                       * served over 31; one to be opened is
+                                       * open, one to be closed is closed     */
 
 /* Why a line was answered with 99; the first that applies is told. The place
  * is the byte of the line where it shows, counted from 0, also where the line
@@ -214,6 +223,51 @@ uint8_t egrivundo_port(const uint8_t *table, size_t table_count,
                        const uint8_t *given, size_t given_count,
                        uint8_t *reply, size_t reply_count,
                        uint64_t told[EGRIVUNDO_PORT_TOLD]);
+
+/* A turn over 32 connections, numbered from 0 to 31: makes one port call for
+ * the connection whose turn it is, on the bytes that wait for it. The round
+ * begins behind the last served, goes up to 31 and on from 0; the first in it
+ * that is open and has bytes waiting is served.
+ *   table   a sound table
+ *   values  as in the port call; the values are one list for all connections
+ *   row     the 32 connections one after the other, 67 bytes each: [0] open (0
+ *           no, any other byte yes), [1..] its port, as in the port call. All
+ *           zero is a fresh row: every connection is closed, every port fresh.
+ *           A turn that serves a connection stores 1 at its [0] and its port
+ *           behind it. All other bytes of the row stay as they were, and a
+ *           refused turn and one with nobody waiting leave all of them
+ *   last    the number of the last served, 31 with a fresh row. The caller
+ *           keeps it: where told[0] is 1, told[1] is the new one, else the old
+ *           one stays
+ *   given   the bytes that wait for all connections, end to end by rising
+ *           number
+ *   counts  32 counts, how many of these bytes are for each. Those of a closed
+ *           connection are passed over. The caller drops the bytes consumed
+ *           from the part of the one served, and keeps the others
+ *   reply   as in the port call; it is for the connection that was served
+ *   told    [0] 1 where one was served, 0 where nobody waits, [1] its number,
+ *           [2] bytes consumed of its part, [3] to [5] as the port call's [1]
+ *           to [3]. All 0 with nobody waiting
+ * Every test is made even where nobody waits; that for 4 looks at the ports of
+ * closed connections too.
+ * Answers 0, 10, 1, 2, 3 or 4; the first of 10, 1, 2, 3, 4 that applies. */
+uint8_t egrivundo_turn(const uint8_t *table, size_t table_count,
+                       int64_t *values, size_t values_count,
+                       uint8_t *row, size_t row_count,
+                       uint64_t last,
+                       const uint8_t *given, size_t given_count,
+                       const uint64_t *counts, size_t counts_count,
+                       uint8_t *reply, size_t reply_count,
+                       uint64_t told[EGRIVUNDO_TURN_TOLD]);
+
+/* Opens a connection, and closes one. Either leaves it with a fresh port.
+ *   row     as in a turn: the connection's [0] becomes 1, or 0 where it is
+ *           closed, and its port's [0] and [1] become 0. All other bytes stay,
+ *           and a refusal leaves all of them
+ *   number  the connection's number, from 0
+ * Answers 0, or 10: also where it is open (closed) already. */
+uint8_t egrivundo_open(uint8_t *row, size_t row_count, uint64_t number);
+uint8_t egrivundo_close(uint8_t *row, size_t row_count, uint64_t number);
 
 /* A change at a wall panel, without a line: sets one value of the room.
  *   table   a sound table

@@ -21,7 +21,8 @@ words =
     bytes "wanted: wrong length, or a chosen entry is not permitted" ∷
     bytes "a wanted change is one that no line can make" ∷
     bytes "the list does not fit its buffer" ∷
-    bytes "no such module or row, or a value that it does not take" ∷ []
+    bytes "no such module or row, or a value that it does not take" ∷
+    bytes "connections: wrong size, counts or number, or already so" ∷ []
 
 abbrev pub noWords : List ℕ
 noWords = bytes "no answer has this number"

@@ -1,9 +1,11 @@
 // The library's calls for C: each is thin over the proved library, and none asks anything of its caller.
+pub mod connection_bytes;
 pub mod fault;
 pub mod place;
 pub mod port_bytes;
 pub mod refusal;
 pub mod row;
+pub mod turn;
 pub mod value_list;
 
 use crate::fault::fault_numbers;

@@ -8,7 +8,7 @@ ghost use Rattle.capi.specs.Port.{portOf};
 ghost use Rattle.capi.specs.Port.Bytes.{bytesOf};
 
 // A byte as a count.
-fn count(b: u8) -> usize
+pub(crate) fn count(b: u8) -> usize
     ensures { λ r. ⌜ r ≡ b ⌝ }
 {
     b as usize
@@ -28,11 +28,11 @@ pub(crate) fn port_of(port: &[u8; 66]) -> Port
     }
 }
 
-// The byte that says whether a line has overrun.
-fn overrun_byte(overrun: bool) -> u8
-    ensures { λ r. ⌜ r ≡ cond overrun 1 0 ⌝ }
+// The byte of a flag.
+pub(crate) fn flag_byte(is: bool) -> u8
+    ensures { λ r. ⌜ r ≡ cond is 1 0 ⌝ }
 {
-    if overrun { 1 } else { 0 }
+    if is { 1 } else { 0 }
 }
 
 // Stores a port in 66 bytes.
@@ -43,6 +43,6 @@ pub(crate) fn store(port: &mut [u8; 66], q: Port)
     let held = q.held;
     let bytes: &mut [u8] = port;
     bytes[0] = q.len as u8;
-    bytes[1] = overrun_byte(q.overrun);
+    bytes[1] = flag_byte(q.overrun);
     put_bytes(bytes, 2, &held);
 }

@@ -37,6 +37,10 @@ pub extern "C" fn egrivundo_refusal(number: u8, text: &mut [u8; 64])
             text,
             b"no such module or row, or a value that it does not take",
         ),
+        10 => put_words(
+            text,
+            b"connections: wrong size, counts or number, or already so",
+        ),
         _ => put_words(text, b"no answer has this number"),
     }
 }

@@ -1,5 +1,6 @@
 -- A row of connections, each open or closed with its own port: opening and closing.
 pub mod Laws
+pub mod Number
 pub mod Switching
 use mathlib.Core.Path.{_≡_}
 use mathlib.Core.Bool.{Bool, true, false, cond, not, _&&_}
@@ -11,6 +12,7 @@ use Rattle.serial_port.specs.Play.Calls.{AsFresh}
 use Rattle.serial_port.specs.declared.port.Port.{Port}
 use Rattle.connections.specs.Parts.{connectionCount}
 use Rattle.connections.specs.declared.connection.Connection.{Connection}
+use Rattle.connections.specs.declared.connection.Fresh.{Fresh}
 use Rattle.connections.specs.declared.connection.Switched.{Switched}
 
 -- a closed connection with a port that holds nothing; it stands for what is past the end of a row
@@ -28,26 +30,27 @@ flags row = map (λ (c : Connection). c .is_open) row
 unfoldable pub openAt : List Connection → (i : ℕ) → Bool
 openAt row i = getD (flags row) i false
 
--- the fresh row: 32 connections, all closed; the last served is then 31
-unfoldable pub freshRow : List Connection
-freshRow = replicate connectionCount closed
-
-unfoldable pub freshLast : ℕ
-freshLast = 31
-
 -- a change that is one: an open connection is not opened, a closed one not closed
 unfoldable pub changes : (want : Bool) → (now : Bool) → Bool
 changes true now = not now
 changes false now = now
 
+-- a row of 32 connections, and a number that is not over 31
+unfoldable pub isPlace : (count : ℕ) → (i : ℕ) → Bool
+isPlace count i = eqb count connectionCount && leb i 31
+
 -- 10 the row has not 32 connections, the number is over 31, or the connection is open (closed) already
 unfoldable pub switchNumber : (want : Bool) → List Connection → (i : ℕ) → ℕ
-switchNumber want row i = cond (eqb (length row) connectionCount && leb i 31 && changes want (openAt row i)) 0 10
+switchNumber want row i = cond (isPlace (length row) i && changes want (openAt row i)) 0 10
 
 -- a connection that was opened or closed: its port counts as a fresh one, whatever it held before
 pub record Anew (want : Bool) (c : Connection) : Type 0 where
   pub switched : c .is_open ≡ want
   pub port : AsFresh (c .port)
+
+-- the fresh row: 32 connections, all closed, each with a port that counts as a fresh one; the last served is then 31
+pub data FreshRow (f : Fresh) : Type 0 where
+  fresh-row : (c : Connection) → Anew false c → f .row ≡ replicate connectionCount c → f .last ≡ 31 → FreshRow f
 
 -- the promise of opening or closing one connection by itself
 pub data SwitchesOne (want : Bool) (c : Connection) (d : Switched) : Type 0 where

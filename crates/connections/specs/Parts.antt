@@ -1,4 +1,4 @@
--- The waiting bytes of all connections: one buffer, one connection after the other in number order, and 32 counts that divide it.
+-- The bytes that wait: those of all connections lie end to end in one buffer, by rising number, and 32 counts tell how many are whose.
 pub mod Adding
 pub mod Laws
 use mathlib.Core.Bool.{Bool, _&&_}

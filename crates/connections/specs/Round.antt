@@ -1,4 +1,4 @@
--- Whose turn it is: the next connection that waits, in number order from the one after the last served, and round again.
+-- Whose turn it is: the round begins behind the last served, goes up to 31 and on from 0, and the first in it that waits is next.
 pub mod Fair
 pub mod Laws
 pub mod Seeking

@@ -1,13 +1,17 @@
 -- A turn: the next connection that waits is served with one port call on its waiting bytes.
 pub mod Exactly
 pub mod Fair
+pub mod First
+pub mod Kept
 pub mod Laws
 pub mod Making
 pub mod Number
 pub mod Picking
-pub mod Single
-pub mod Whole
+pub mod Playable
 pub mod Played
+pub mod Single
+pub mod TakenOut
+pub mod Whole
 use mathlib.Core.Path.{_≡_}
 use mathlib.Core.Bool.{Bool, true, cond, _&&_}
 use mathlib.Core.List.{List, [], _∷_}
@@ -34,6 +38,7 @@ use Rattle.connections.specs.Round.{waitsBy, next}
 use Rattle.connections.specs.declared.connection.Connection.{Connection}
 use Rattle.connections.specs.declared.round.Served.{Served}
 use Rattle.connections.specs.declared.round.Served.the-variants.{Nobody, One}
+use Rattle.connections.specs.declared.turning.Turned.{Turned}
 
 -- what a turn is given besides the table: the row and the last served, the counts and the bytes that they divide, the values and the reply buffer
 pub record Asked : Type 0 where
@@ -43,6 +48,10 @@ pub record Asked : Type 0 where
   pub given : List ℕ
   pub values : List ℤ
   pub buffer : List ℕ
+
+-- its parts put together
+abbrev pub asked : (row : List Connection) → (last : ℕ) → (counts given : List ℕ) → List ℤ → (buffer : List ℕ) → Asked
+asked row last counts given vs buffer = record { row = row; last = last; counts = counts; given = given; values = vs; buffer = buffer }
 
 -- 10 the row or the counts have not the length 32, the counts do not add up to the length of the bytes, or the last served is over 31
 unfoldable pub rowNumber : Asked → ℕ
@@ -79,6 +88,10 @@ pub record Told : Type 0 where
   pub fault : Fault
   pub values : List ℤ
   pub buffer : List ℕ
+
+-- the same of a turn's answer, with the values and the reply buffer as they are afterwards
+unfoldable pub tells : Turned → List ℤ → (buffer : List ℕ) → Told
+tells t vs buffer = record { number = t .number; served = t .served; consumed = t .consumed; sent = t .sent; fault = t .fault; values = vs; buffer = buffer }
 
 -- nobody is served: it counts zero, tells no fault and changes nothing
 unfoldable pub idle : (number : ℕ) → Asked → Told

@@ -1,11 +1,11 @@
 // The number that a turn over a row of 32 is refused with.
 use crate::parts::counts_right;
-use catalogue::table::all_rows;
 use room::table::check;
 use serial_port::refusal::REPLY;
 use serial_port::refusal::reply_number;
 use values::values_number;
 ghost use mathlib.Core.Path.{_≡_};
+ghost use Rattle.catalogue.specs.Catalogue.{numbers};
 ghost use Rattle.values.specs.Room.{roomOf};
 ghost use Rattle.connections.specs.Turn.Number.{claimsNumber, fitNumber, numberBy};
 
@@ -37,11 +37,13 @@ pub(crate) fn turn_number(
     few: bool,
     last: usize,
     table: &[u8],
+    rows: &[[i32; 8]; 50],
     values: &[i64],
     bytes: usize,
     counts: &[u64],
     room: usize,
 ) -> u8
+    requires { ⌜ now rows ≡ numbers ⌝ }
     ensures { λ r. ⌜ r ≡ numberBy (roomOf (now (table .entry))) few last (now (counts .entry)) bytes (now (values .entry)) room ⌝ }
 {
     let of_fit = fit_number(counts, bytes, last);
@@ -52,8 +54,7 @@ pub(crate) fn turn_number(
     if of_table != 0 {
         return of_table;
     }
-    let rows = all_rows();
-    let of_values = values_number(table, &rows, values);
+    let of_values = values_number(table, rows, values);
     if of_values != 0 {
         return of_values;
     }

@@ -2,7 +2,7 @@
 ghost use mathlib.Core.Path.{_≡_};
 ghost use Prim.Native.Nat.{_<_, _≤_};
 ghost use lib.ListN.{length};
-ghost use Rattle.connections.specs.Round.{next, waitsBy};
+ghost use Rattle.connections.specs.Round.{lastAfter, next, waitsBy};
 
 // The connection that a turn serves, or nobody.
 pub enum Served {
@@ -21,7 +21,7 @@ fn waits(flags: &[bool; 32], counts: &[u64], number: usize) -> bool
     false
 }
 
-// The next connection that waits: in number order from the one after the last served, and round again.
+// The next connection that waits. The round begins behind the last served, goes up to 31 and on from 0.
 pub fn next_waiting(flags: &[bool; 32], counts: &[u64], last: usize) -> Served
     requires { ⌜ (last ≤ 31) × (length (now counts) ≡ 32) ⌝ }
     ensures { λ r. ⌜ r ≡ next last (waitsBy (now (flags .entry)) (now (counts .entry))) ⌝ }
@@ -35,4 +35,14 @@ pub fn next_waiting(flags: &[bool; 32], counts: &[u64], last: usize) -> Served
         passed += 1;
     }
     Served::Nobody
+}
+
+// The last served as it stands after a turn.
+pub fn last_after(last: usize, served: Served) -> usize
+    ensures { λ r. ⌜ r ≡ lastAfter last served ⌝ }
+{
+    match served {
+        Served::Nobody => last,
+        Served::One(one) => one,
+    }
 }

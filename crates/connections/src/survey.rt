@@ -1,8 +1,11 @@
 // Looking over a row: which connections are open, and whether each port claims at most 64 bytes.
 use crate::connection::Connection;
 use serial_port::refusal::HELD;
+ghost use mathlib.Core.Bool.{_&&_};
 ghost use mathlib.Core.Path.{_≡_};
+ghost use lib.Dec.{leb};
 ghost use lib.ListN.{set};
+ghost use Rattle.syntax.specs.Shape.{lineLimit};
 ghost use Rattle.connections.specs.Survey.{noted, nothingNoted, surveyedFrom};
 
 // What is noted of the connections of a row.
@@ -33,21 +36,34 @@ fn with_flag(flags: [bool; 32], number: usize, is_open: bool) -> [bool; 32]
     after
 }
 
+// Whether all ports claim at most 64 bytes, by whether those before do, and what one more claims.
+pub fn still_few(few: bool, claims: usize) -> bool
+    ensures { λ r. ⌜ r ≡ (few && leb claims lineLimit) ⌝ }
+{
+    if claims <= HELD {
+        return few;
+    }
+    false
+}
+
+// How many bytes the port of a connection claims, be it open or closed.
+fn claims(connection: Connection) -> usize
+    ensures { λ r. ⌜ r ≡ connection .port .len ⌝ }
+{
+    let port = connection.port;
+    port.len
+}
+
 // Notes one connection.
 fn note(survey: Survey, number: usize, connection: Connection) -> Survey
     ensures { λ r. ⌜ r ≡ noted survey number connection ⌝ }
 {
     let before = survey.flags;
     let flags = with_flag(before, number, connection.is_open);
-    let port = connection.port;
-    if HELD < port.len {
-        return Survey {
-            few: false,
-            flags: flags,
-        };
-    }
+    let claimed = claims(connection);
+    let few = still_few(survey.few, claimed);
     Survey {
-        few: survey.few,
+        few: few,
         flags: flags,
     }
 }

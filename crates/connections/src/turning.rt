@@ -6,11 +6,16 @@ use crate::round::Served;
 use crate::round::next_waiting;
 use crate::serving::serve_one;
 use crate::survey::Survey;
+use catalogue::table::all_rows;
 use line::fault::Fault;
+ghost use mathlib.Core.Bool.{true};
 ghost use mathlib.Core.Path.{_≡_};
 ghost use Prim.Native.Nat.{_<_, _≤_};
 ghost use lib.ListN.{length};
+ghost use Rattle.catalogue.specs.Catalogue.{numbers};
+ghost use Rattle.room.specs.Table.{sound};
 ghost use Rattle.values.specs.Room.{roomOf};
+ghost use Rattle.values.specs.Values.{valuesSound};
 ghost use Rattle.connections.specs.Parts.{total};
 ghost use Rattle.connections.specs.Turn.Picking.{picked};
 ghost use Rattle.connections.specs.Turn.Single.{ServesNext, ServesWaiting, TurnsAt, TurnsOne, still};
@@ -31,7 +36,7 @@ pub struct TurnedOne {
 }
 
 // Nobody is served.
-fn idle(number: u8) -> Turned
+pub(crate) fn idle(number: u8) -> Turned
     ensures { λ r. ⌜ r ≡ still number ⌝ }
 {
     let served = Served::Nobody;
@@ -50,17 +55,19 @@ fn serve_next(
     connection: Connection,
     number: usize,
     table: &[u8],
+    rows: &[[i32; 8]; 50],
     given: &[u8],
     counts: &[u64],
     values: &mut [i64],
     reply: &mut [u8],
 ) -> TurnedOne
+    requires { ⌜ (sound (now table) ≡ true) × (now rows ≡ numbers) × (valuesSound (roomOf (now table)) (now values) ≡ true) × (64 ≤ length (now reply)) ⌝ }
     requires { ⌜ (number < length (now counts)) × (total (now counts) ≡ length (now given)) ⌝ }
     ensures { λ r. ⌜ ServesNext (roomOf (now (table .entry))) number (now (counts .entry)) (now (given .entry)) (now (values .entry)) (now (reply .entry)) connection r (now (values .exit)) (now (reply .exit)) ⌝ }
 {
     let start = part_start(counts, number);
     let end = start + counts[number] as usize;
-    let done = serve_one(connection, table, &given[start..end], values, reply);
+    let done = serve_one(connection, table, rows, &given[start..end], values, reply);
     let after = done.connection;
     let answer = done.answer;
     let fault = answer.fault;
@@ -84,11 +91,13 @@ fn serve_waiting(
     flags: [bool; 32],
     last: usize,
     table: &[u8],
+    rows: &[[i32; 8]; 50],
     given: &[u8],
     counts: &[u64],
     values: &mut [i64],
     reply: &mut [u8],
 ) -> TurnedOne
+    requires { ⌜ (sound (now table) ≡ true) × (now rows ≡ numbers) × (valuesSound (roomOf (now table)) (now values) ≡ true) × (64 ≤ length (now reply)) ⌝ }
     requires { ⌜ (last ≤ 31) × (length (now counts) ≡ 32) × (total (now counts) ≡ length (now given)) ⌝ }
     ensures { λ r. ⌜ ServesWaiting (roomOf (now (table .entry))) flags last (now (counts .entry)) (now (given .entry)) (now (values .entry)) (now (reply .entry)) connection r (now (values .exit)) (now (reply .exit)) ⌝ }
 {
@@ -101,12 +110,21 @@ fn serve_waiting(
                 turned: turned,
             }
         }
-        Served::One(next) => serve_next(connection, next, table, given, counts, values, reply),
+        Served::One(next) => serve_next(
+            connection,
+            next,
+            table,
+            rows,
+            given,
+            counts,
+            values,
+            reply,
+        ),
     }
 }
 
 // The turn, for a connection that is the next that waits where there is one: refused, or as above.
-pub(crate) fn turn_one(
+pub fn turn_one(
     connection: Connection,
     survey: Survey,
     last: usize,
@@ -118,9 +136,10 @@ pub(crate) fn turn_one(
 ) -> TurnedOne
     ensures { λ r. ⌜ TurnsOne (roomOf (now (table .entry))) survey last (now (counts .entry)) (now (given .entry)) (now (values .entry)) (now (reply .entry)) connection r (now (values .exit)) (now (reply .exit)) ⌝ }
 {
+    let rows = all_rows();
     let bytes = given.len();
     let room = reply.len();
-    let number = turn_number(survey.few, last, table, values, bytes, counts, room);
+    let number = turn_number(survey.few, last, table, &rows, values, bytes, counts, room);
     if number != 0 {
         let turned = idle(number);
         return TurnedOne {
@@ -129,7 +148,17 @@ pub(crate) fn turn_one(
         };
     }
     let flags = survey.flags;
-    serve_waiting(connection, flags, last, table, given, counts, values, reply)
+    serve_waiting(
+        connection,
+        flags,
+        last,
+        table,
+        &rows,
+        given,
+        counts,
+        values,
+        reply,
+    )
 }
 
 // Takes one connection out of the row, has the turn made for it, and puts it back.
@@ -163,8 +192,8 @@ pub(crate) fn turn_at(
 }
 
 // The number of the connection to take out of a row of 32: the next that waits, or 0 where there is none or a turn is refused with 10.
-pub(crate) fn pick(flags: [bool; 32], counts: &[u64], last: usize) -> usize
-    ensures { λ r. ⌜ r ≡ picked flags (now (counts .entry)) last ⌝ }
+pub fn pick(survey: Survey, counts: &[u64], last: usize) -> usize
+    ensures { λ r. ⌜ r ≡ picked (survey .flags) (now (counts .entry)) last ⌝ }
 {
     if counts.len() != 32 {
         return 0;
@@ -172,6 +201,7 @@ pub(crate) fn pick(flags: [bool; 32], counts: &[u64], last: usize) -> usize
     if 31 < last {
         return 0;
     }
+    let flags = survey.flags;
     let served = next_waiting(&flags, counts, last);
     match served {
         Served::Nobody => 0,

@@ -1,5 +1,6 @@
 // The port: it collects bytes into lines, and answers each line once.
 use crate::refusal::call_number;
+use crate::refusal::claim_number;
 use catalogue::table::all_rows;
 use line::answer::Answered;
 use line::answer::answer_line;
@@ -20,6 +21,7 @@ ghost use Rattle.values.specs.Room.{roomOf};
 ghost use Rattle.values.specs.Values.{valuesSound};
 ghost use Rattle.serial_port.specs.Call.{Answers};
 ghost use Rattle.serial_port.specs.Call.Finishing.{Finishes};
+ghost use Rattle.serial_port.specs.Call.Rules.{refusal};
 ghost use Rattle.serial_port.specs.Port.{Gathers, fresh, view};
 ghost use Rattle.serial_port.specs.Refusal.{replyLimit};
 ghost use Rattle.serial_port.specs.Server.{controlSpace};
@@ -180,6 +182,38 @@ impl Port {
         }
     }
 
+    // The answer of a refusal: the port as it was given, zeros and no fault.
+    fn refused(self, number: u8) -> Called
+        ensures { λ r. ⌜ r ≡ refusal self number ⌝ }
+    {
+        Called {
+            port: self,
+            consumed: 0,
+            sent: 0,
+            fault: Fault::Nothing,
+            number: number,
+        }
+    }
+
+    // A call whose table, values and reply buffer were tested already: refused with 4 where the port claims too much, or served.
+    pub fn take_tested(
+        self,
+        table: &[u8],
+        rows: &[[i32; 8]; 50],
+        values: &mut [i64],
+        given: &[u8],
+        reply: &mut [u8],
+    ) -> Called
+        requires { ⌜ (sound (now table) ≡ true) × (now rows ≡ numbers) × (valuesSound (roomOf (now table)) (now values) ≡ true) × (64 ≤ length (now reply)) ⌝ }
+        ensures { λ r. ⌜ Answers (roomOf (now (table .entry))) (now (values .entry)) self (now (given .entry)) (now (reply .entry)) r (now (values .exit)) (now (reply .exit)) ⌝ }
+    {
+        let claim = claim_number(self.len);
+        if claim != 0 {
+            return self.refused(claim);
+        }
+        self.serve(table, rows, values, given, reply)
+    }
+
     // A call: refused with the first number that applies in its order, or served.
     pub fn take(self, table: &[u8], values: &mut [i64], given: &[u8], reply: &mut [u8]) -> Called
         ensures { λ r. ⌜ Answers (roomOf (now (table .entry))) (now (values .entry)) self (now (given .entry)) (now (reply .entry)) r (now (values .exit)) (now (reply .exit)) ⌝ }
@@ -187,13 +221,7 @@ impl Port {
         let rows = all_rows();
         let number = call_number(table, &rows, values, reply.len(), self.len);
         if number != 0 {
-            return Called {
-                port: self,
-                consumed: 0,
-                sent: 0,
-                fault: Fault::Nothing,
-                number: number,
-            };
+            return self.refused(number);
         }
         self.serve(table, &rows, values, given, reply)
     }

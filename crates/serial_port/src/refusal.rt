@@ -22,7 +22,7 @@ pub fn reply_number(least: usize, room: usize) -> u8
 }
 
 // 4 where a port claims more bytes than it may hold, or 0.
-fn claim_number(claimed: usize) -> u8
+pub(crate) fn claim_number(claimed: usize) -> u8
     ensures { λ r. ⌜ r ≡ claimNumber claimed ⌝ }
 {
     if claimed <= HELD {

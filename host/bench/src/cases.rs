@@ -16,6 +16,8 @@ pub struct Case {
     reply: [u8; 64],
     list: Vec<u8>,
     fed: [u64; 4],
+    row: Vec<u8>,
+    turned: [u64; 6],
     noticed: [u64; 1],
     listed: [u64; 2],
     part: [u64; 3],
@@ -27,6 +29,11 @@ enum Work {
     Table,
     Port {
         given: Vec<u8>,
+    },
+    /// A turn over 32 open connections.
+    Turn {
+        given: Vec<u8>,
+        counts: [u64; 32],
     },
     /// A panel change, of the last module.
     Panel {
@@ -49,10 +56,16 @@ struct Wish {
 enum Expected {
     Nothing,
     Reply(&'static [u8]),
+    /// Whom a turn served, and its reply.
+    Served(u64, &'static [u8]),
+    Nobody,
     Notice(&'static [u8]),
     Lines(u64),
     InTable(u64),
 }
+
+/// The last served of every turn: the one that waits alone is looked at last.
+const LAST: usize = 15;
 
 pub fn all() -> Vec<Case> {
     rooms::all().into_iter().flat_map(of_room).collect()
@@ -78,6 +91,19 @@ fn of_room(room: Room) -> Vec<Case> {
     let part = get[..get.len() - 2].to_vec();
     works.push(("port-unknown".to_string(), port(unknown, b"\x1501\r")));
     works.push(("port-part".to_string(), port(part, b"")));
+    let turn = |waits: &dyn Fn(usize) -> bool| {
+        let own = |number| if waits(number) { &get[..] } else { b"" };
+        let queues: [&[u8]; 32] = std::array::from_fn(own);
+        let counts = queues.map(|queue| queue.len() as u64);
+        let given = queues.concat();
+        Work::Turn { given, counts }
+    };
+    let served = |number: usize| Expected::Served(number as u64, b"GA\"");
+    let (one, all) = (turn(&|number| number == LAST), turn(&|_| true));
+    works.push(("turn-one".to_string(), (one, served(LAST))));
+    works.push(("turn-all".to_string(), (all, served(LAST + 1))));
+    let nobody = turn(&|_| false);
+    works.push(("turn-nobody".to_string(), (nobody, Expected::Nobody)));
     let panel = |marked, notice| (Work::Panel { marked }, Expected::Notice(notice));
     works.push(("panel-silent".to_string(), panel(false, b"")));
     works.push(("panel-notice".to_string(), panel(true, b"GA\"#")));
@@ -119,6 +145,8 @@ fn of_room(room: Room) -> Vec<Case> {
             reply: [0; 64],
             list: vec![0; room.values.len() * 51],
             fed: [0; 4],
+            row: [&[1][..], &[0; 66]].concat().repeat(32),
+            turned: [0; 6],
             noticed: [0; 1],
             listed: [0; 2],
             part: [0; 3],
@@ -144,6 +172,16 @@ impl Case {
                     &mut self.fed,
                 )
             }
+            Work::Turn { given, counts } => (calls.turn)(
+                &room.table,
+                &mut self.values,
+                &mut self.row,
+                LAST as u64,
+                given,
+                counts,
+                &mut self.reply,
+                &mut self.turned,
+            ),
             Work::Panel { marked } => {
                 // Each call finds the value as it was, and so changes it.
                 let place = room.values.len() - room.last + room.row;
@@ -189,6 +227,11 @@ impl Case {
         let right = match self.expected {
             Expected::Nothing => true,
             Expected::Reply(begin) => self.begins(self.fed[1], begin),
+            Expected::Served(number, begin) => {
+                let [served, who, _, length, ..] = self.turned;
+                (served, who) == (1, number) && self.begins(length, begin)
+            }
+            Expected::Nobody => self.turned == [0; 6],
             Expected::Notice(begin) => self.begins(self.noticed[0], begin),
             Expected::Lines(lines) => self.listed[1] == lines,
             Expected::InTable(found) => self.part[0] == found,

@@ -77,8 +77,8 @@ pub const MISTAKES: &[Mistake] = &[
         "fault_waiting",
         "the call that overruns the line tells it",
         "port.rs",
-        "Ok([given.len(), 0, 0, 0])",
-        "Ok([given.len(), 0, usize::from(port[1] != 0), 0])",
+        "[given.len(), 0, 0, 0]",
+        "[given.len(), 0, usize::from(port[1] != 0), 0]",
     ),
     (
         "fault_code",

@@ -1,5 +1,6 @@
 //! The planted mistakes.
 
+mod connection;
 mod fault;
 mod line;
 mod log;
@@ -11,6 +12,7 @@ mod restore;
 mod route;
 mod size;
 mod table;
+mod turn;
 mod values;
 mod write;
 
@@ -25,7 +27,7 @@ pub type Mistake = (
 );
 
 /// All of them, part by part.
-pub const MISTAKES: [&[Mistake]; 13] = [
+pub const MISTAKES: [&[Mistake]; 15] = [
     values::MISTAKES,
     table::MISTAKES,
     line::MISTAKES,
@@ -39,4 +41,6 @@ pub const MISTAKES: [&[Mistake]; 13] = [
     route::MISTAKES,
     panel::MISTAKES,
     notice::MISTAKES,
+    turn::MISTAKES,
+    connection::MISTAKES,
 ];

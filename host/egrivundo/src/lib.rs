@@ -1,7 +1,7 @@
 //! A safe interface to the proved control core of a viewing room's sound box.
 //!
 //! [`calls`] has the functions of the archive over slices and blocks of fixed
-//! size. [`Room`], [`Port`] and [`List`] stand above them.
+//! size. [`Room`], [`Port`], [`Panels`] and [`List`] stand above them.
 //!
 //! ```
 //! use egrivundo::{Port, Room, Type};
@@ -36,6 +36,7 @@ mod fault;
 mod index;
 mod kind;
 mod list;
+mod panels;
 mod port;
 mod refusal;
 mod reply;
@@ -48,6 +49,7 @@ pub use fault::{Cause, Fault};
 pub use index::{Index, IndexError};
 pub use kind::Type;
 pub use list::{List, Size};
+pub use panels::{Panels, Turned};
 pub use port::Port;
 pub use refusal::Refusal;
 pub use reply::Reply;

@@ -26,6 +26,9 @@ pub enum Refusal {
     /// There is no such module or row; of a panel change also: the row is
     /// read-only, or does not permit the value.
     Row = 9,
+    /// The counts do not add up to the waiting bytes, there is no connection
+    /// with this number, or it is open already, or closed already.
+    Connections = 10,
 }
 
 impl Refusal {
@@ -52,6 +55,7 @@ impl Refusal {
             7 => Refusal::Reach,
             8 => Refusal::List,
             9 => Refusal::Row,
+            10 => Refusal::Connections,
             _ => panic!("the archive answered {answer}, which is no refusal"),
         })
     }

@@ -1,6 +1,6 @@
 //! The paper once more, in plain safe Rust.
 //!
-//! The six functions here take the same arguments as the C functions of the
+//! The nine functions here take the same arguments as the C functions of the
 //! archive, as slices and blocks of fixed size, and answer with the same
 //! numbers, so that the two can be compared byte for byte. Nothing here
 //! allocates.
@@ -8,6 +8,7 @@
 #![forbid(unsafe_code)]
 
 pub mod catalogue;
+mod connections;
 mod control;
 pub mod layout;
 mod line;
@@ -21,6 +22,10 @@ mod text;
 
 /// Bytes that a port lends: held count, overrun, held bytes.
 pub const PORT_BYTES: usize = 66;
+/// Connections of a row.
+pub const CONNECTIONS: usize = 32;
+/// Bytes that a connection lends: open, and its port.
+pub const CONNECTION_BYTES: usize = 1 + PORT_BYTES;
 
 /// A refusal: the paper's number.
 type Refusal = u8;
@@ -65,6 +70,39 @@ pub fn panel(
     told: &mut [u64; 1],
 ) -> u8 {
     tell(told, panel::call(table, values, owner, row, value, reply))
+}
+
+/// One turn over a row of connections, in bytes. `given` has the waiting bytes
+/// of all, in number order, and `counts` how many are of each; `last` is the
+/// last served. `told` becomes 1 where one was served, its number, and what a
+/// port call tells; zeros where none waits.
+#[allow(clippy::too_many_arguments)]
+pub fn turn(
+    table: &[u8],
+    values: &mut [i64],
+    row: &mut [u8],
+    last: u64,
+    given: &[u8],
+    counts: &[u64],
+    reply: &mut [u8],
+    told: &mut [u64; 6],
+) -> u8 {
+    let waiting = connections::Waiting {
+        last,
+        given,
+        counts,
+    };
+    tell(told, connections::turn(table, values, row, waiting, reply))
+}
+
+/// Opens a closed connection: 0, or 10.
+pub fn open(row: &mut [u8], number: u64) -> u8 {
+    tell(&mut [], connections::switch(row, number, true))
+}
+
+/// Closes an open connection: 0, or 10.
+pub fn close(row: &mut [u8], number: u64) -> u8 {
+    tell(&mut [], connections::switch(row, number, false))
 }
 
 /// The size of the restore list. `told` becomes its bytes and lines.

@@ -15,6 +15,18 @@ pub fn call(
     given: &[u8],
     reply: &mut [u8],
 ) -> Result<[usize; 4], Refusal> {
+    let table = sound(table, values, reply)?;
+    check(port)?;
+    // Zero bytes given change nothing, whatever stands in the port.
+    if given.is_empty() {
+        return Ok([0; 4]);
+    }
+    Ok(feed(table, values, port, given, reply))
+}
+
+/// The table, where neither it, nor the values, nor the reply buffer is
+/// refused.
+pub fn sound<'a>(table: &'a [u8], values: &[i64], reply: &[u8]) -> Result<Table<'a>, Refusal> {
     let table = Table::new(table).ok_or(1u8)?;
     if !table.takes(values) {
         return Err(2);
@@ -22,17 +34,30 @@ pub fn call(
     if reply.len() < REPLY {
         return Err(3);
     }
+    Ok(table)
+}
+
+/// Refuses a port that claims too many held bytes.
+pub fn check(port: &[u8; PORT_BYTES]) -> Result<(), Refusal> {
     if usize::from(port[0]) > MOST {
         return Err(4);
     }
-    // Zero bytes given change nothing, whatever stands in the port.
-    if given.is_empty() {
-        return Ok([0; 4]);
-    }
+    Ok(())
+}
+
+/// What a call does that is given bytes and not refused.
+#[inline]
+pub fn feed(
+    table: Table,
+    values: &mut [i64],
+    port: &mut [u8; PORT_BYTES],
+    given: &[u8],
+    reply: &mut [u8],
+) -> [usize; 4] {
     match given.iter().position(|&byte| byte == b'\r') {
         None => {
             collect(port, given);
-            Ok([given.len(), 0, 0, 0])
+            [given.len(), 0, 0, 0]
         }
         Some(end) => {
             collect(port, &given[..end]);
@@ -45,7 +70,7 @@ pub fn call(
             port[0] = 0;
             port[1] = 0;
             let [cause, place] = fault.map_or([0; 2], |(cause, place)| [cause as usize, place]);
-            Ok([end + 1, length, cause, place])
+            [end + 1, length, cause, place]
         }
     }
 }

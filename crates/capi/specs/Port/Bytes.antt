@@ -16,7 +16,7 @@ use Rattle.capi.specs.Port.{portOf}
 -- ---- the port that the bytes say
 
 -- a text as long as its buffer is all of it
-wrote-whole : (l s : List ℕ) (r : ℕ) (m : List ℕ) → Wrote l 0 s r m → length s ≡ length l → m ≡ s
+pub wrote-whole : (l s : List ℕ) (r : ℕ) (m : List ℕ) → Wrote l 0 s r m → length s ≡ length l → m ≡ s
 wrote-whole l s r m w e =
     let b = wrote-between w (omega arith) in
     let d : drop (0 + length s) l ≡ [] = rw (zero-add, e) (drop-length l) in
@@ -36,7 +36,7 @@ port-said port h r m n l e w k =
 unfoldable pub bytesOf : Port → List ℕ
 bytesOf q = q .len ∷ cond (q .overrun) 1 0 ∷ q .held
 
-flag-said : (o : Bool) → not (eqb (cond o 1 0) 0) ≡ o
+pub flag-said : (o : Bool) → not (eqb (cond o 1 0) 0) ≡ o
 flag-said true = refl
 flag-said false = refl
 

@@ -34,7 +34,7 @@ left-stored : (given port : List ℕ) (v : View) (port′ : List ℕ) → (lengt
 left-stored [] port v port′ h s = absurd (h refl)
 left-stored (b ∷ given) port v port′ h s = s
 
-stored : (q : Port) (v : View) → view q ≡ v → q .len ≤ lineLimit → Stores v (bytesOf q)
+pub stored : (q : Port) (v : View) → view q ≡ v → q .len ≤ lineLimit → Stores v (bytesOf q)
 stored q v s few = record { seen = rw (bytes-say q) s; few = rw (bytes-claim q) few; flag = bytes-flag q }
 
 -- ---- the call

@@ -21,7 +21,7 @@ pub zeros-fresh : view (portOf (replicate 66 0)) ≡ fresh
 unfolding portOf
 zeros-fresh = seen-fresh (portOf (replicate 66 0)) refl refl
 
-claim-said : (port : List ℕ) → getD port 0 0 ≤ lineLimit → portOf port .len ≤ lineLimit
+pub claim-said : (port : List ℕ) → getD port 0 0 ≤ lineLimit → portOf port .len ≤ lineLimit
 unfolding portOf
 claim-said port h = h
 

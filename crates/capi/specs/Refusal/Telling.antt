@@ -40,10 +40,10 @@ past n k h e = omega (arith, e)
 
 -- of any other
 pub words-none : (n : ℕ) (m : List ℕ) → (n ≡ 0 → ⊥) → (n ≡ 1 → ⊥) → (n ≡ 2 → ⊥) → (n ≡ 3 → ⊥) → (n ≡ 4 → ⊥) → (n ≡ 5 → ⊥) → (n ≡ 6 → ⊥) → (n ≡ 7 → ⊥) → (n ≡ 8 → ⊥)
-    → (n ≡ 9 → ⊥) → m ≡ padded noWords → m ≡ refusalText n
+    → (n ≡ 9 → ⊥) → (n ≡ 10 → ⊥) → m ≡ padded noWords → m ≡ refusalText n
 unfolding refusalText
-words-none n m a b c d e f g h i j q =
-    let l = past n 9 (past n 8 (past n 7 (past n 6 (past n 5 (past n 4 (past n 3 (past n 2 (past n 1 (past n 0 (omega arith) a) b) c) d) e) f) g) h) i) j in
+words-none n m a b c d e f g h i j k q =
+    let l = past n 10 (past n 9 (past n 8 (past n 7 (past n 6 (past n 5 (past n 4 (past n 3 (past n 2 (past n 1 (past n 0 (omega arith) a) b) c) d) e) f) g) h) i) j) k in
     q ∙ ap padded (sym (List·getD-eq-default words noWords l))
 
 pub ruleset telling = (words-told, words-none)

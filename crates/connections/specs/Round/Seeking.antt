@@ -1,4 +1,4 @@
--- Rules for seeking the next connection that waits.
+-- Rules for seeking the next connection that waits, and for the last served.
 use mathlib.Core.Path.{_≡_, refl, sym, _∙_, ap}
 use mathlib.Core.Bool.{Bool, true, false, cond, _&&_}
 use mathlib.Core.List.{List}
@@ -7,7 +7,7 @@ use native.Mathlib.Omega.{arith}
 use lib.Dec.{ltb}
 use lib.ListN.{getD}
 use borrow.Author.Tests.{lt-ltb, le-ltb}
-use Rattle.connections.specs.Round.{waitsBy, seek, next}
+use Rattle.connections.specs.Round.{lastAfter, waitsBy, seek, next}
 use Rattle.connections.specs.declared.round.Served.{Served}
 use Rattle.connections.specs.declared.round.Served.the-variants.{Nobody, One}
 
@@ -55,3 +55,15 @@ sought-all last passed waits s l =
     sym (s .rest ∙ ap (λ n. seek n passed last waits) q)
 
 pub ruleset seeking = (waits-open, waits-closed, sought-start, sought-found, sought-next, sought-all)
+
+-- ---- the last served
+
+pub last-nobody : (last : ℕ) (s : Served) → s ≡ Nobody → last ≡ lastAfter last s
+unfolding lastAfter
+last-nobody last s e = rw e refl
+
+pub last-one : (last i : ℕ) (s : Served) → s ≡ One i → i ≡ lastAfter last s
+unfolding lastAfter
+last-one last i s e = rw e refl
+
+pub ruleset lasting = (last-nobody, last-one)

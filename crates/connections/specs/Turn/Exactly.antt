@@ -1,11 +1,10 @@
 -- When exactly a turn is refused, and with which number.
-use mathlib.Core.Path.{_≡_, refl, sym, _∙_}
+use mathlib.Core.Path.{_≡_, refl}
 use mathlib.Core.Bool.{Bool, true, false, _&&_}
 use mathlib.Core.Logic.{_↔_}
-use mathlib.Core.List.{List, [], _∷_}
 use Prim.Native.Nat.{ℕ, _≤_, _<_}
 use native.Mathlib.Omega.{arith}
-use borrow.Author.Tests.{eqb-true, eqb-false, leb-true, leb-false, ne-eqb, lt-leb}
+use borrow.Author.Tests.{eqb-false, leb-true, leb-false, ne-eqb, lt-leb}
 use lib.Dec.{eqb, leb}
 use lib.ListN.{length}
 use Rattle.text.specs.Every.{every}
@@ -81,7 +80,7 @@ pub data Verdict (r : Room) (a : Asked) : ℕ → Type 0 where
 
 module _ (r : Room) (a : Asked) where
   -- a number with its reason is the turn's
-  number-by : {n : ℕ} → Verdict r a n → turnNumber r a ≡ n
+  pub number-by : {n : ℕ} → Verdict r a n → turnNumber r a ≡ n
   unfolding turnNumber portsNumber
   number-by (misfit m) = first-by (stops (misfit-number a m))
   number-by (unsound z s) = first-by (passes z (stops (table-refused (r .table) s)))

@@ -1,8 +1,8 @@
 -- What a turn does: whom it serves, that it is a port call, and that the others are as they were.
 use mathlib.Core.Path.{_≡_, refl, sym, _∙_, ap, subst}
-use mathlib.Core.Bool.{Bool, true, false, _&&_}
+use mathlib.Core.Bool.{true, false, _&&_}
 use mathlib.Core.List.{List, [], _∷_}
-use Prim.Native.Nat.{ℕ, zero, suc, _≤_, _<_}
+use Prim.Native.Nat.{ℕ, zero, suc, _+_, _≤_, _<_}
 use native.Mathlib.Omega.{arith}
 use borrow.Author.Tests.{eqb-true, leb-true, ltb-true}
 use lib.Dec.{eqb, leb, ltb}
@@ -11,6 +11,7 @@ use lib.ListN.{length, getD, set}
 use lib.Seq.{getD-set-same, getD-set-other}
 use Rattle.text.specs.Every.{every}
 use Rattle.text.specs.Every.Laws.{both, every-at}
+use Rattle.text.specs.Written.Laws.{past-by}
 use Rattle.room.specs.Refusal.Laws.{all-passed, passed-test}
 use Rattle.room.specs.Table.{sound, tableNumber}
 use Rattle.room.specs.Table.Number.{passed-table}
@@ -18,20 +19,23 @@ use Rattle.values.specs.Room.{Room}
 use Rattle.values.specs.Values.{valuesSound, valuesNumber}
 use Rattle.values.specs.Values.Number.{passed-values}
 use Rattle.syntax.specs.Shape.{lineLimit}
-use Rattle.serial_port.specs.Call.{Answers, call}
+use Rattle.serial_port.specs.Call.{Answers, step}
+use Rattle.serial_port.specs.Call.Accepted.{answer-accept, step-fits}
 use Rattle.serial_port.specs.Call.Telling.{call-number}
 use Rattle.serial_port.specs.Refusal.{replyLimit, replyNumber, callNumber}
 use Rattle.serial_port.specs.Refusal.Laws as refusal
+use Rattle.serial_port.specs.Port.{view}
 use Rattle.serial_port.specs.Refusal.Number.{passed-reply}
-use Rattle.serial_port.specs.declared.port.Called.{Called}
+use Rattle.serial_port.specs.Server.{controlSpace}
 use Rattle.connections.specs.Connections.{closed, portAt, flags, openAt}
 use Rattle.connections.specs.Parts.{connectionCount, total, countsRight}
-use Rattle.connections.specs.Round.{waitsBy, next}
-use Rattle.connections.specs.Round.Laws.{ahead, NoneBefore, Chosen, nobody, one, next-chosen}
-use Rattle.connections.specs.Turn.{Asked, rowNumber, claimsFew, portsNumber, turnNumber, chosen, bytesOf, Told, idle, busy, tell, turn, answer, PutBack, put-back, Left, Turns, turns}
+use Rattle.connections.specs.Round.{waitsBy}
+use Rattle.connections.specs.Round.Laws.{Chosen, one, next-chosen}
+use Rattle.connections.specs.Turn.{Asked, rowNumber, claimsFew, portsNumber, turnNumber, chosen, bytesOf, Told, idle, busy, tell, turn, answer, PutBack, put-back, Left, Turns, turns, tells}
 use Rattle.connections.specs.declared.connection.Connection.{Connection}
 use Rattle.connections.specs.declared.round.Served.{Served}
 use Rattle.connections.specs.declared.round.Served.the-variants.{Nobody, One}
+use Rattle.connections.specs.declared.turning.Turned.{Turned}
 
 -- what a turn that is not refused was given
 pub record Accepted (r : Room) (a : Asked) : Type 0 where
@@ -105,7 +109,7 @@ waits-both row counts i h = let b = both (getD (flags row) i false) (ltb 0 (getD
 
 -- ---- the number that is told
 
-served-number : (r : Room) (a : Asked) (i : ℕ) → turnNumber r a ≡ 0 → i < 32 → callNumber r (a .values) (length (a .buffer)) (portAt (a .row) i .len) ≡ 0
+pub served-number : (r : Room) (a : Asked) (i : ℕ) → turnNumber r a ≡ 0 → i < 32 → callNumber r (a .values) (length (a .buffer)) (portAt (a .row) i .len) ≡ 0
 served-number r a i e l =
     let k = accepted r a e in
     refusal.accepted r (a .values) (length (a .buffer)) (portAt (a .row) i .len) (k .table) (k .values) (k .room) (k .few i l)
@@ -131,6 +135,9 @@ told-by (turns told left) = told
 
 pub left-by : {r : Room} {a : Asked} {t : Told} {row′ : List Connection} → Turns r a t row′ → Left r a (turnNumber r a) (chosen a) t row′
 left-by (turns told left) = left
+
+pub accepts : {r : Room} {a : Asked} {t : Told} {row′ : List Connection} → Turns r a t row′ → t .number ≡ 0 → turnNumber r a ≡ 0
+accepts {r} {a} p e = sym (turn-number r a) ∙ sym (ap (λ (x : Told). x .number) (told-by p)) ∙ e
 
 -- who is told as served
 pub data ServedAs (r : Room) (a : Asked) (t : Told) (row′ : List Connection) : Served → Type 0 where
@@ -191,3 +198,20 @@ nobody-changes {r} {a} {t} {row′} p e = go (t .served) e (served-as p)
     go : (s : Served) → s ≡ Nobody → ServedAs r a t row′ s → (row′ ≡ a .row) × (t ≡ idle (turnNumber r a) a)
     go Nobody q (nobody-served same told) = (same, told)
     go (One k) q (one-served j z w l b) = absurd (let z : _≡_ {A = ℕ} 0 1 = cc in omega arith)
+
+-- the reply lies within the reply buffer
+reply-within : {r : Room} {a : Asked} {t : Told} {row′ : List Connection} → Turns r a t row′ → t .sent ≤ length (a .buffer)
+unfolding idle answer replyLimit
+reply-within {r} {a} {t} {row′} p = go (t .served) (served-as p)
+  where
+    go : (s : Served) → ServedAs r a t row′ s → t .sent ≤ length (a .buffer)
+    go Nobody (nobody-served same told) = let z : t .sent ≡ 0 = ap (λ (x : Told). x .sent) told in omega (arith, z)
+    go (One i) (one-served j z q l (put-back c placed stays answers)) =
+        let k = accepted r a z in
+        let b = answer-accept r (a .values) (portAt (a .row) i) (bytesOf a i) (a .buffer) (answer t (c .port)) (t .values) (t .buffer) (k .table) (k .values) (k .room) (k .few i l) answers in
+        let n : t .sent ≡ 0 + length (step (controlSpace r) (a .values) (view (portAt (a .row) i)) (bytesOf a i) .reply) = past-by (b .reply) in
+        omega (arith, n, step-fits r (a .values) (view (portAt (a .row) i)) (bytesOf a i) (k .table) (k .values), k .room)
+
+pub sent-within : {r : Room} {a : Asked} {row′ : List Connection} (t : Turned) (vs′ : List ℤ) (buffer′ : List ℕ) → Turns r a (tells t vs′ buffer′) row′ → t .sent ≤ length (a .buffer)
+unfolding tells
+sent-within t vs′ buffer′ p = reply-within p

@@ -7,16 +7,14 @@ use native.Mathlib.Omega.{arith}
 use lib.IntN.{ℤ}
 use lib.ListN.{getD, set}
 use Rattle.values.specs.Room.{Room}
-use Rattle.serial_port.specs.Call.{Answers}
 use Rattle.serial_port.specs.Call.Telling.{call-field}
 use Rattle.connections.specs.Connections.{closed, portAt, flags, openAt}
-use Rattle.connections.specs.Connections.Laws.{open-flag}
+use Rattle.connections.specs.Connections.Number.{open-flag}
 use Rattle.connections.specs.Round.{waitsBy}
 use Rattle.connections.specs.Round.Laws.{Chosen, nobody, one}
-use Rattle.connections.specs.Serving.{called, Serves, serves, ServesAt, serves-at}
-use Rattle.connections.specs.Turn.{Asked, turnNumber, chosen, bytesOf, Told, idle, busy, tell, turn, answer, PutBack, put-back, Left, Turns, turns}
+use Rattle.connections.specs.Serving.{Serves, serves}
+use Rattle.connections.specs.Turn.{Asked, turnNumber, chosen, bytesOf, Told, idle, busy, tell, turn, answer, put-back, Turns, turns}
 use Rattle.connections.specs.Turn.Laws.{chosen-first, waits-both}
-use Rattle.connections.specs.declared.connection.Connection.{Connection}
 use Rattle.connections.specs.declared.round.Served.{Served}
 use Rattle.connections.specs.declared.round.Served.the-variants.{Nobody, One}
 use Rattle.connections.specs.declared.serving.PortAnswer.{PortAnswer}
@@ -47,11 +45,10 @@ module _ (r : Room) (a : Asked) where
           let o : openAt (a .row) k ≡ true = waits-both (a .row) (a .counts) k w .0 in
           sym (open-flag (a .row) i) ∙ ap (openAt (a .row)) (sym same) ∙ o
 
-  -- the one that is next was served
-  pub served-made : (i : ℕ) (t : PortAnswer) (row′ : List Connection) (vs′ : List ℤ) (buffer′ : List ℕ) → turnNumber r a ≡ 0 → chosen a ≡ One i
-      → ServesAt r (a .row) i (bytesOf a i) (a .values) (a .buffer) t row′ vs′ buffer′ → Turns r a (told i t vs′ buffer′) row′
+  -- the one that is next was served, and put back where it stood
+  pub served-made : (i : ℕ) (d : ServedOne) (vs′ : List ℤ) (buffer′ : List ℕ) → turnNumber r a ≡ 0 → chosen a ≡ One i
+      → Serves r (getD (a .row) i closed) (bytesOf a i) (a .values) (a .buffer) d vs′ buffer′ → Turns r a (told i (d .answer) vs′ buffer′) (set (a .row) i (d .connection))
   unfolding turn tell told busy portAt answer
-  served-made i t row′ vs′ buffer′ e q (serves-at d (serves stays answers) same placed) =
-      let h : Answers r (a .values) (getD (a .row) i closed .port) (bytesOf a i) (a .buffer) (called t (d .connection .port)) vs′ buffer′ = rw same answers in
-      turns (rw (e, q) (call-field r (a .values) (getD (a .row) i closed .port) (bytesOf a i) (a .buffer) h (busy i)))
-      (rw (e, q) (put-back (d .connection) placed (stays ∙ is-open i e q) h))
+  served-made i d vs′ buffer′ e q (serves stays answers) =
+      turns (rw (e, q) (call-field r (a .values) (getD (a .row) i closed .port) (bytesOf a i) (a .buffer) answers (busy i)))
+      (rw (e, q) (put-back (d .connection) refl (stays ∙ is-open i e q) answers))

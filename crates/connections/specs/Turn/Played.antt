@@ -1,9 +1,9 @@
 -- Turns that serve one connection alone play its bytes as port calls do: what demand 3 says of calls that were made holds of them.
-use mathlib.Core.Path.{_≡_, refl, sym, _∙_, ap}
+use mathlib.Core.Path.{_≡_}
 use mathlib.Core.List.{List, [], _∷_, map}
-use Prim.Native.Nat.{ℕ, _≤_}
+use Prim.Native.Nat.{ℕ}
 use lib.IntN.{ℤ}
-use lib.ListN.{length, drop}
+use lib.ListN.{drop}
 use Rattle.values.specs.Room.{Room}
 use Rattle.serial_port.specs.Call.{Answers}
 use Rattle.serial_port.specs.Play.Calls as calls
@@ -11,9 +11,8 @@ use Rattle.serial_port.specs.Play.Calls.{Plays}
 use Rattle.serial_port.specs.declared.port.Called.{Called}
 use Rattle.serial_port.specs.declared.port.Port.{Port}
 use Rattle.connections.specs.Connections.{portAt}
-use Rattle.connections.specs.Turn.{Told, Turns, Made, turnNumber, bytesOf, answer}
-use Rattle.connections.specs.Turn.Laws.{accepted, told-by, turn-number, turn-call}
-use Rattle.connections.specs.declared.round.Served.{Served}
+use Rattle.connections.specs.Turn.{Turns, Made, bytesOf, answer}
+use Rattle.connections.specs.Turn.Laws.{accepted, accepts, turn-call}
 use Rattle.connections.specs.declared.round.Served.the-variants.{One}
 
 -- the port call that a turn made for connection c
@@ -29,10 +28,7 @@ PlaysTo r c (u ∷ us) p vs bs =
     × (portAt (u .asked .row) c ≡ p) × (u .asked .values ≡ vs) × (bytesOf (u .asked) c ≡ bs)
     × PlaysTo r c us (portAt (u .row) c) (u .told .values) (drop (u .told .consumed) bs)
 
-accepts : (r : Room) (u : Made) → Turns r (u .asked) (u .told) (u .row) → u .told .number ≡ 0 → turnNumber r (u .asked) ≡ 0
-accepts r u t e = sym (turn-number r (u .asked)) ∙ sym (ap (λ (x : Told). x .number) (told-by t)) ∙ e
-
-same-answers : (r : Room) (vs ws : List ℤ) (p q : Port) (bs cs buffer buffer′ : List ℕ) (c : Called) (vs′ : List ℤ) → q ≡ p → ws ≡ vs → cs ≡ bs
+pub same-answers : (r : Room) (vs ws : List ℤ) (p q : Port) (bs cs buffer buffer′ : List ℕ) (c : Called) (vs′ : List ℤ) → q ≡ p → ws ≡ vs → cs ≡ bs
     → Answers r ws q cs buffer c vs′ buffer′ → Answers r vs p bs buffer c vs′ buffer′
 same-answers r vs ws p q bs cs buffer buffer′ c vs′ e f g a = rw (e, f, g) at a
 
@@ -42,7 +38,7 @@ unfolding callOf answer
 turns-play r c [] p vs bs h = h
 turns-play r c (u ∷ us) p vs bs h =
     let call = turn-call (h .0) c (h .2) in (
-      accepted r (u .asked) (accepts r u (h .0) (h .1)) .room,
+      accepted r (u .asked) (accepts (h .0) (h .1)) .room,
       same-answers r vs (u .asked .values) p (portAt (u .asked .row) c) bs (bytesOf (u .asked) c) (u .asked .buffer) (u .told .buffer)
           (answer (u .told) (portAt (u .row) c)) (u .told .values) (h .3) (h .4) (h .5) call,
       turns-play r c us (portAt (u .row) c) (u .told .values) (drop (u .told .consumed) bs) (h .6),

@@ -15,7 +15,8 @@ use Rattle.values.specs.Room.{Room}
 use Rattle.values.specs.Values.{valuesSound}
 use Rattle.syntax.specs.Shape.{lineLimit}
 use Rattle.serial_port.specs.Server.{Server, controlSpace}
-use Rattle.serial_port.specs.Port.{View, view, join}
+use Rattle.serial_port.specs.Port.{View, view, claim, join}
+use Rattle.serial_port.specs.Port.Laws.{fresh-few, claim-join}
 use Rattle.serial_port.specs.Call.{step, replied, waiting, tell, tells, Takes, Answers}
 use Rattle.serial_port.specs.Refusal.{replyLimit}
 use Rattle.serial_port.specs.Call.Laws.{step-finishes, step-waits, reply-fits, told-by, handed-by}
@@ -52,7 +53,7 @@ pub answer-accept : (r : Room) (vs : List ℤ) (p : Port) (bs buffer : List ℕ)
 answer-accept r vs p bs buffer c vs′ buffer′ s g h k a =
     accept (controlSpace r) vs p bs buffer c vs′ buffer′ (rw (accepted r vs (length buffer) (p .len) s g h k) at a)
 
--- ---- how much is consumed, and how long the reply is
+-- ---- how much is consumed and claimed, and how long the reply is
 
 module _ {S : Type 0} (server : Server S) (v : View) (s : S) (bs : List ℕ) where
   pub consumed-most : step server s v bs .consumed ≤ length bs
@@ -71,6 +72,15 @@ module _ {S : Type 0} (server : Server S) (v : View) (s : S) (bs : List ℕ) whe
       go : (t : Bool) → has 0x0D bs ≡ t → 1 ≤ step server s v bs .consumed
       go true e = rw (step-finishes server s v bs e) (omega arith)
       go false e = rw (step-waits server s v bs e) h
+
+  -- the port that it leaves claims at most 64 bytes
+  pub step-claim : claim (step server s v bs .port) ≤ lineLimit
+  unfolding replied waiting
+  step-claim = go (has 0x0D bs) refl
+    where
+      go : (t : Bool) → has 0x0D bs ≡ t → claim (step server s v bs .port) ≤ lineLimit
+      go true e = rw (step-finishes server s v bs e) fresh-few
+      go false e = rw (step-waits server s v bs e) (claim-join v bs)
 
 -- the reply of any step of ControlSpace fits 64 bytes
 pub step-fits : (r : Room) (vs : List ℤ) (v : View) (bs : List ℕ) → sound (r .table) ≡ true → valuesSound r vs ≡ true

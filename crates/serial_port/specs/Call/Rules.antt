@@ -12,12 +12,17 @@ use Rattle.serial_port.specs.Server.{Server}
 use Rattle.serial_port.specs.Port.{view, fresh, gathered, Gathers}
 use Rattle.serial_port.specs.Port.Gathering.{gathered-by, gathered-few}
 use Rattle.serial_port.specs.Call.{finish, step, served, replied, waiting, tell, tells, Takes, takes}
+use Rattle.serial_port.specs.declared.port.Called.{Called}
 use Rattle.serial_port.specs.declared.port.Port.{Port}
 use Rattle.serial_port.specs.declared.port.Gathered.{Gathered}
 
+-- the answer of a refusal: the port as it was given, zeros and no fault
+abbrev pub refusal : Port → (number : ℕ) → Called
+refusal p number = record { port = p; consumed = 0; sent = 0; fault = Nothing; number = number }
+
 module _ {S : Type 0} (server : Server S) (s : S) (p : Port) (bs buffer : List ℕ) where
   -- a refusal
-  pub returns-refused : (n : ℕ) → (n ≡ 0 → ⊥) → Takes server n s p bs buffer (record { port = p; consumed = 0; sent = 0; fault = Nothing; number = n }) s buffer
+  pub returns-refused : (n : ℕ) → (n ≡ 0 → ⊥) → Takes server n s p bs buffer (refusal p n) s buffer
   unfolding tell tells
   returns-refused zero h = absurd (h refl)
   returns-refused (suc n) h = takes refl refl

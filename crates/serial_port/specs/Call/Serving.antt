@@ -1,5 +1,5 @@
 -- Rules for the code of a call: the ways in which it returns.
-use mathlib.Core.Path.{_≡_, _∙_}
+use mathlib.Core.Path.{_≡_, sym, _∙_}
 use mathlib.Core.Bool.{true, false, not}
 use mathlib.Core.List.{List}
 use Prim.Native.Nat.{ℕ, _≤_}
@@ -20,20 +20,34 @@ use Rattle.serial_port.specs.Port.{view, fresh, Gathers}
 use Rattle.serial_port.specs.Port.Gathering.{gathered-few}
 use Rattle.serial_port.specs.Call.{Answers, finish}
 use Rattle.serial_port.specs.Call.Finishing.{Finishes, finishes}
-use Rattle.serial_port.specs.Call.Rules.{returns-refused, returns-waiting, returns-finished}
-use Rattle.serial_port.specs.Refusal.{callNumber, replyLimit}
-use Rattle.serial_port.specs.Refusal.Laws.{accepted}
+use Rattle.serial_port.specs.Call.Rules.{refusal, returns-refused, returns-waiting, returns-finished}
+use Rattle.serial_port.specs.Refusal.{callNumber, claimNumber, replyLimit}
+use Rattle.serial_port.specs.Refusal.Laws.{accepted, number-tested}
+use Rattle.serial_port.specs.Refusal.Number.{passed-claim}
 use Rattle.serial_port.specs.Refusal.Telling.{none-told}
+use Rattle.serial_port.specs.declared.port.Called.{Called}
 use Rattle.serial_port.specs.declared.port.Port.{Port}
 use Rattle.serial_port.specs.declared.port.Gathered.{Gathered}
 
 -- ---- a call with its number
 
-module _ (r : Room) (vs : List ℤ) (p : Port) (bs buffer : List ℕ) (n : ℕ) (e : n ≡ callNumber r vs (length buffer) (p .len)) where
-  pub taken-refused : (n ≡ 0 → ⊥) → Answers r vs p bs buffer (record { port = p; consumed = 0; sent = 0; fault = Nothing; number = n }) vs buffer
-  taken-refused h = rw (← e) (returns-refused (controlSpace r) vs p bs buffer n h)
+module _ (r : Room) (vs : List ℤ) (p : Port) (bs buffer : List ℕ) (n : ℕ) (c : Called) (q : c ≡ refusal p n) (h : n ≡ 0 → ⊥) where
+  pub taken-refused : n ≡ callNumber r vs (length buffer) (p .len) → Answers r vs p bs buffer c vs buffer
+  taken-refused e = rw (← e, q) (returns-refused (controlSpace r) vs p bs buffer n h)
+
+  -- the port's claim was the only test left
+  pub tested-refused : sound (r .table) ≡ true → valuesSound r vs ≡ true → 64 ≤ length buffer → n ≡ claimNumber (p .len) → Answers r vs p bs buffer c vs buffer
+  unfolding replyLimit
+  tested-refused s v k e = taken-refused (e ∙ sym (number-tested r vs (length buffer) (p .len) s v k))
+
+-- the claim was passed
+pub claim-held : (p : Port) (n : ℕ) → n ≡ claimNumber (p .len) → n ≡ 0 → p .len ≤ 64
+unfolding lineLimit
+claim-held p n e z = passed-claim (p .len) (sym e ∙ z)
 
 pub ruleset taking = (taken-refused, none-told)
+
+pub ruleset taking-tested = (tested-refused, claim-held)
 
 -- ---- a call that is served
 

@@ -12,7 +12,7 @@ use Rattle.line.specs.declared.fault.Fault.the-variants.{Nothing}
 use Rattle.serial_port.specs.Server.{Server, controlSpace}
 use Rattle.serial_port.specs.Port.{view}
 use Rattle.serial_port.specs.Port.Laws.{claim-view}
-use Rattle.serial_port.specs.Call.{Step, Told, step, waiting, tell, call, tells, Handed, Takes, Answers}
+use Rattle.serial_port.specs.Call.{Step, Told, step, waiting, tell, call, tells, Handed, Takes, takes, Answers}
 use Rattle.serial_port.specs.Call.Laws.{told-by, handed-by, step-nothing, step-waits}
 use Rattle.serial_port.specs.Refusal.{callNumber}
 use Rattle.serial_port.specs.Refusal.Telling.{none-claim}
@@ -105,6 +105,13 @@ module _ (r : Room) (vs : List ℤ) (p : Port) (bs buffer : List ℕ) where
       → f (record { number = c .number; consumed = c .consumed; sent = c .sent; fault = c .fault; state = vs′; buffer = buffer′ }) ≡ f (call r vs p bs buffer)
   unfolding call
   call-field a f = told-field a f
+
+  -- what the call tells, with a port that is seen as it says, keeps the promise of a call that is served
+  pub call-kept : (q : Port) → callNumber r vs (length buffer) (p .len) ≡ 0 → view q ≡ step (controlSpace r) vs (view p) bs .port → q .len ≤ lineLimit
+      → (t : Told (List ℤ)) → t ≡ call r vs p bs buffer
+      → Answers r vs p bs buffer (record { port = q; consumed = t .consumed; sent = t .sent; fault = t .fault; number = t .number }) (t .state) (t .buffer)
+  unfolding call tells
+  call-kept q e seen few t h = takes h (rw e (seen, few))
 
 -- a port that is served claims at most 64 bytes
 pub served-claim : (r : Room) (vs : List ℤ) (replyRoom claimed : ℕ) → callNumber r vs replyRoom claimed ≡ 0 → claimed ≤ lineLimit

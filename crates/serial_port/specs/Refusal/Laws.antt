@@ -1,17 +1,17 @@
 -- When each number is told: one law for each.
-use mathlib.Core.Path.{_≡_, refl}
+use mathlib.Core.Path.{_≡_, refl, _∙_}
 use mathlib.Core.Bool.{true, false}
 use mathlib.Core.List.{List}
 use Prim.Native.Nat.{ℕ, _≤_, _<_}
 use lib.IntN.{ℤ}
-use Rattle.room.specs.Refusal.Laws.{all, passes, stops, first-by}
+use Rattle.room.specs.Refusal.Laws.{all, passes, stops, first-by, first-passed, first-last}
 use Rattle.room.specs.Table.{sound}
 use Rattle.room.specs.Table.Number.{table-passed, table-refused}
 use Rattle.values.specs.Room.{Room}
 use Rattle.values.specs.Values.{valuesSound}
 use Rattle.values.specs.Values.Number.{values-passed, values-refused}
 use Rattle.syntax.specs.Shape.{lineLimit}
-use Rattle.serial_port.specs.Refusal.{callNumber, replyLimit}
+use Rattle.serial_port.specs.Refusal.{callNumber, claimNumber, replyLimit}
 use Rattle.serial_port.specs.Refusal.Number.{claim-passed, claim-refused, reply-passed, reply-refused}
 
 pub number-table : (r : Room) (vs : List ℤ) (replyRoom claimed : ℕ) → sound (r .table) ≡ false → callNumber r vs replyRoom claimed ≡ 1
@@ -41,6 +41,14 @@ pub accepted : (r : Room) (vs : List ℤ) (replyRoom claimed : ℕ) → sound (r
 unfolding callNumber
 accepted r vs replyRoom claimed s p h k =
     first-by (passes (table-passed (r .table) s) (passes (values-passed r vs p) (passes (reply-passed replyLimit replyRoom h) (passes (claim-passed claimed k) all))))
+
+-- where the other tests are passed, the port's claim decides
+pub number-tested : (r : Room) (vs : List ℤ) (replyRoom claimed : ℕ) → sound (r .table) ≡ true → valuesSound r vs ≡ true → replyLimit ≤ replyRoom
+    → callNumber r vs replyRoom claimed ≡ claimNumber claimed
+unfolding callNumber
+number-tested r vs replyRoom claimed s g h =
+    first-passed _ _ (table-passed (r .table) s) ∙ first-passed _ _ (values-passed r vs g) ∙ first-passed _ _ (reply-passed replyLimit replyRoom h)
+    ∙ first-last (claimNumber claimed)
 
 -- of a port's claim, only whether it is over 64 counts: a port and its view are refused alike
 pub refused-alike : (r : Room) (vs : List ℤ) (replyRoom claimed other : ℕ) → claimed ≤ lineLimit → other ≤ lineLimit

@@ -2,6 +2,7 @@
 
 mod lines;
 mod panel;
+mod turns;
 mod wish;
 
 use std::panic::{catch_unwind, AssertUnwindSafe};
@@ -33,7 +34,8 @@ pub fn run(left: &Calls, right: &Calls, settings: Settings) -> Report {
     Report::new(compare.tally, scenario, Ok(Ok(())))
 }
 
-/// One scenario: a room, some log calls, lines on a port, knobs, some wishes.
+/// One scenario: a room, some log calls, lines on a port, knobs, turns, some
+/// wishes.
 fn play(rng: &mut Rng, compare: &mut Compare) -> Result<(), Difference> {
     let mut room = rooms::room(rng);
     if rng.once_in(6) {
@@ -54,6 +56,9 @@ fn play(rng: &mut Rng, compare: &mut Compare) -> Result<(), Difference> {
     }
     lines::feed(rng, compare, &room, &values)?;
     panel::turn(rng, compare, &room, &values)?;
+    if rng.once_in(2) {
+        turns::play(rng, compare, &room, &values)?;
+    }
     for _ in 0..2 {
         wish::ask(rng, compare, &room, &values)?;
     }

@@ -1,5 +1,6 @@
 //! A wish, the size of its restore list, the list, and the list played.
 
+use super::turns;
 use crate::compare::{Compare, Difference, Sides, Wish, USUAL};
 use crate::rng::Rng;
 use crate::rooms;
@@ -34,10 +35,16 @@ pub fn ask(
     if count * present.len() > 20_000 && !rng.once_in(20) {
         return Ok(());
     }
-    let mut sides = Sides::new(present, &[0; 66]);
-    let acks = play(rng, compare, &room.table, &mut sides, &list)?;
     let expected = fulfilled(&room.table, present, &selection, &wanted);
-    if acks != count || sides.port()[..2] != [0, 0] || sides.values() != expected {
+    let (acks, fresh, values) = match rng.once_in(4) {
+        true => turns::play_list(rng, compare, &room.table, present, &list)?,
+        false => {
+            let mut sides = Sides::new(present, &[0; 66]);
+            let acks = play(rng, compare, &room.table, &mut sides, &list)?;
+            (acks, sides.port()[..2] == [0, 0], sides.values().to_vec())
+        }
+    };
+    if acks != count || !fresh || values != expected {
         return Err(format!(
             "restore: the list does not fulfil the wish: {}",
             list.escape_ascii()

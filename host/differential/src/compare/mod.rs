@@ -20,10 +20,14 @@ macro_rules! ensure {
 mod panel;
 mod port;
 mod restore;
+mod row;
 mod table;
+mod turn;
 mod written;
 
 pub use restore::Wish;
+pub use row::Rows;
+pub use turn::Waiting;
 
 /// What went wrong, in words.
 pub type Difference = String;
@@ -85,7 +89,7 @@ impl Sides {
     }
 }
 
-/// What an accepted port call did.
+/// What an accepted port call did, or that of a turn.
 pub struct Fed {
     pub consumed: usize,
     pub reply: Vec<u8>,
@@ -107,8 +111,15 @@ fn number(answer: u8) -> &'static str {
         7 => "7",
         8 => "8",
         9 => "9",
+        10 => "10",
         _ => "unknown",
     }
+}
+
+/// How many values differ.
+fn changed(old: &[i64], new: &[i64]) -> usize {
+    let pairs = old.iter().zip(new);
+    pairs.filter(|(old, new)| old != new).count()
 }
 
 /// A list of values for a message, cut where it is long.

@@ -1,7 +1,7 @@
 //! The port call.
 
 use super::written::{Output, Written};
-use super::{form, number, short, Compare, Difference, Fed, Side, Sides};
+use super::{changed, form, number, short, Compare, Difference, Fed, Side, Sides};
 use crate::rng::Rng;
 use cores::Calls;
 
@@ -113,8 +113,7 @@ fn judge(
     ensure!((cause != 0) == (reply == b"\x1599\r"), "a cause without 99");
     ensure!(cause <= 5 && place <= 64, "no cause, or no place");
     ensure!(cause != 0 || place == 0, "a place without a cause");
-    let pairs = old.values().iter().zip(new.values());
-    let changed = pairs.filter(|(old, new)| old != new).count();
+    let changed = changed(old.values(), new.values());
     ensure!(
         changed == 0 || (changed == 1 && reply == b"\x06\r"),
         "{changed} values changed"
@@ -127,7 +126,7 @@ fn judge(
 }
 
 /// The paper's rule for ports that count as the same.
-fn same_port(left: &[u8], right: &[u8]) -> bool {
+pub fn same_port(left: &[u8], right: &[u8]) -> bool {
     match (left[1] != 0, right[1] != 0) {
         (true, true) => left[0] <= 64 && right[0] <= 64,
         (false, false) => {

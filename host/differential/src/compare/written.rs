@@ -59,6 +59,11 @@ impl Written {
         Ok(())
     }
 
+    /// The buffer as it was before the call.
+    pub fn untouched(&self) -> Vec<u8> {
+        vec![self.filler; self.right.buffer.view().len()]
+    }
+
     /// Nothing was written to the buffer from this place on.
     pub fn ends_by(&self, place: usize) -> bool {
         let rest = self.right.buffer.view().get(place..);

@@ -2,12 +2,14 @@
 
 mod knob;
 mod port;
+mod row;
 mod spoil;
 mod value;
 mod wish;
 
 pub use knob::{knob, Knob};
 pub use port::port;
+pub use row::{connection, flag, row, CONNECTION, ROW};
 pub use spoil::{spoil_table, spoil_values};
 pub use value::{differing, permitted, spoiled};
 pub use wish::{selection, wanted};

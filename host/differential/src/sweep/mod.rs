@@ -5,6 +5,7 @@ mod lines;
 mod mixers;
 mod pairs;
 mod panels;
+mod turns;
 mod wishes;
 
 use std::panic::{catch_unwind, AssertUnwindSafe};
@@ -26,6 +27,11 @@ pub fn sweep(left: &Calls, right: &Calls) -> Report {
     let played = catch_unwind(AssertUnwindSafe(|| {
         calls::tables(&mut compare)?;
         mixers::tables(&mut compare)?;
+        turns::refusals(&mut compare)?;
+        turns::numbers(&mut compare)?;
+        turns::counts(&mut compare)?;
+        turns::bytes(&mut compare)?;
+        turns::rounds(&mut compare)?;
         panels::refusals(&mut compare)?;
         panels::numbers(&mut compare)?;
         panels::labels(&mut compare)?;

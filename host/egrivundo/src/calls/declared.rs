@@ -63,6 +63,27 @@ extern "C" {
         told: *mut [u64; 2],
     ) -> u8;
 
+    pub fn egrivundo_turn(
+        table: *const u8,
+        table_count: usize,
+        values: *mut i64,
+        values_count: usize,
+        row: *mut u8,
+        row_count: usize,
+        last: u64,
+        given: *const u8,
+        given_count: usize,
+        counts: *const u64,
+        counts_count: usize,
+        reply: *mut u8,
+        reply_count: usize,
+        told: *mut [u64; 6],
+    ) -> u8;
+
+    pub fn egrivundo_open(row: *mut u8, row_count: usize, number: u64) -> u8;
+
+    pub fn egrivundo_close(row: *mut u8, row_count: usize, number: u64) -> u8;
+
     pub fn egrivundo_value_count(table: *const u8, table_count: usize, told: *mut [u64; 1]) -> u8;
 
     pub fn egrivundo_starts(

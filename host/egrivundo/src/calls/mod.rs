@@ -1,7 +1,7 @@
 //! The calls of the archive over slices and blocks of fixed size, with
 //! their bare numbers.
 //!
-//! The numbers 1 to 9 are those of [`Refusal`]; with them `told` is set to
+//! The numbers 1 to 10 are those of [`Refusal`]; with them `told` is set to
 //! zero and nothing else changes.
 //!
 //! [`Refusal`]: crate::Refusal
@@ -9,7 +9,10 @@
 // This module is the one place with unsafe code.
 #![allow(unsafe_code)]
 
+mod connections;
 mod declared;
+
+pub use connections::{close, open, turn};
 
 use declared::*;
 

@@ -96,6 +96,11 @@ impl Room {
         &self.values
     }
 
+    /// Table and values, for a call that changes values.
+    pub(crate) fn lend(&mut self) -> (&[u8], &mut [i64]) {
+        (&self.table, &mut self.values)
+    }
+
     /// The modules in table order.
     pub fn modules(&self) -> impl Iterator<Item = Module<'_>> {
         let mut rest = &self.table[..];

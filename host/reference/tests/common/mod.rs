@@ -2,6 +2,8 @@
 
 #![allow(dead_code)]
 
+pub mod panels;
+
 use reference::layout::Layout;
 
 pub const ACK: &[u8] = b"\x06\r";

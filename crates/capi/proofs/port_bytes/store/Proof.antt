@@ -10,7 +10,7 @@ store-spec =
     (tie.spec
     (λ c. search (storing, needs))  -- cast-bytes
     (λ c. search (storing, needs))  -- slice-write-bytes
-    (λ c κs. search (storing, needs))  -- overrun-byte-requires
+    (λ c κs. search (storing, needs))  -- flag-byte-requires
     (λ c. search (storing, needs))  -- slice-write-bytes-2
     (λ c. search (storing, needs))  -- slice-aggregate-put-bytes
     (λ c κs. search (storing, needs))  -- put-bytes-requires

@@ -30,6 +30,8 @@ egrivundo-refusal-spec =
     (λ c κs. search needs)  -- put-words-requires-10
     (λ c. search needs)  -- slice-aggregate-put-words-11
     (λ c κs. search needs)  -- put-words-requires-11
+    (λ c. search needs)  -- slice-aggregate-put-words-12
+    (λ c κs. search needs)  -- put-words-requires-12
     (λ c. search (telling, needs))  -- returns
     (λ c. search (telling, needs))  -- returns-2
     (λ c. search (telling, needs))  -- returns-3
@@ -40,4 +42,5 @@ egrivundo-refusal-spec =
     (λ c. search (telling, needs))  -- returns-8
     (λ c. search (telling, needs))  -- returns-9
     (λ c. search (telling, needs))  -- returns-10
-    (λ c. search (telling, needs)))  -- returns-11
+    (λ c. search (telling, needs))  -- returns-11
+    (λ c. search (telling, needs)))  -- returns-12

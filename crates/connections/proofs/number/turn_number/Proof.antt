@@ -12,7 +12,6 @@ turn-number-spec =
     (λ c. search (numbering, needs))  -- returns
     (λ c κs. search (numbering, needs))  -- check-requires
     (λ c. search (numbering, needs))  -- returns-2
-    (λ c κs. search (numbering, needs))  -- all-rows-requires
     (λ c κs. search (numbering, needs))  -- values-number-requires
     (λ c. search (numbering, needs))  -- returns-3
     (λ c κs. search (numbering, needs))  -- reply-number-requires

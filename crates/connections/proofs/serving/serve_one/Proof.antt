@@ -8,7 +8,7 @@ pub serve-one-spec : {M : Type 1} → statement M
 serve-one-spec =
     tie.close
     (tie.spec
-    (λ c κs. search (serving, needs))  -- take-requires
+    (λ c κs. search (serving, needs))  -- take-tested-requires
     (λ c. search (serving, needs))  -- same-length
     (λ c. search (serving, needs))  -- same-length-2
     (λ c. search (serving, needs)))  -- returns

@@ -1,4 +1,4 @@
--- `note`: by the claim of the port.
+-- `note`: by its flag and the claim of its port.
 use borrow.Author.Needs.{needs}
 use Rattle.connections.specs.Survey.Noting.{noting}
 use Rattle.connections.proofs.survey.note.Statement.{statement}
@@ -9,5 +9,6 @@ note-spec =
     tie.close
     (tie.spec
     (λ c κs. search (noting, needs))  -- with-flag-requires
-    (λ c. search (noting, needs))  -- returns
-    (λ c. search (noting, needs)))  -- returns-2
+    (λ c κs. search (noting, needs))  -- claims-requires
+    (λ c κs. search (noting, needs))  -- still-few-requires
+    (λ c. search (noting, needs)))  -- returns

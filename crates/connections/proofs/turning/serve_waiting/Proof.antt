@@ -12,7 +12,7 @@ serve-waiting-spec =
     (λ c. search (waiting, needs))  -- enum-told
     (λ c κs. search (waiting, needs))  -- idle-requires
     (λ c. search (waiting, needs))  -- enum-known-served
-    (λ c κs. search (waiting, needs))  -- serve-next-requires
+    (λ c κs. ((search (waiting, needs), search (waiting, needs), search (waiting, needs), search (waiting, needs)), (search (waiting, needs), search (waiting, needs))))  -- serve-next-requires
     (λ c. search (waiting, needs))  -- returns
     (λ c. search (waiting, needs))  -- same-length
     (λ c. search (waiting, needs))  -- same-length-2

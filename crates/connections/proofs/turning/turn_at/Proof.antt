@@ -1,4 +1,4 @@
--- `turn_at` meets its contract: a walk of its MIR, by hand, as that of `serve_at`, with `turn_one` for `serve_one`: it takes what was noted of the row, the last served and the counts as well.
+-- `turn_at` meets its contract: a walk of its MIR, by hand. The connection is taken out of the row, `turn_one` is called on it, and what it hands back is put where the connection stood.
 use mathlib.Core.Path.{_≡_, refl, sym, ap, subst}
 use Prim.Native.Nat.{ℕ, _<_, _*_, _^_}
 use mathlib.Core.List.{List, [], _∷_}

@@ -10,7 +10,13 @@ use lib.IntN.{ℤ}
 use lib.ListN.{length, getD, take, drop}
 use Rattle.text.specs.Every.Laws.{both}
 use Rattle.room.specs.Refusal.Laws.{all-passed, passed-test}
-use Rattle.values.specs.Room.{Room}
+use Rattle.room.specs.Table.{sound}
+use Rattle.room.specs.Table.Number.{passed-table}
+use Rattle.values.specs.Room.{Room, roomOf}
+use Rattle.values.specs.Values.{valuesSound}
+use Rattle.values.specs.Values.Number.{passed-values}
+use Rattle.serial_port.specs.Refusal.{replyLimit}
+use Rattle.serial_port.specs.Refusal.Number.{passed-reply}
 use Rattle.connections.specs.Parts.{total, countsRight, partStart, waitingOf}
 use Rattle.connections.specs.Parts.Laws.{part-within}
 use Rattle.connections.specs.Round.{waitsBy, next}
@@ -61,6 +67,15 @@ fit-passed r few last counts bytes vs room h =
     let k : last ≤ 31 = leb-true last 31 (b .1) in
     (d .0, d .1, omega arith)
 
+lent-passed : (r : Room) (few : Bool) (last : ℕ) (counts : List ℕ) (bytes : ℕ) (vs : List ℤ) (room : ℕ) → numberBy r few last counts bytes vs room ≡ 0
+    → (sound (r .table) ≡ true) × (valuesSound r vs ≡ true) × (64 ≤ room)
+unfolding numberBy replyLimit
+lent-passed r few last counts bytes vs room h =
+    let t = all-passed _ _ (all-passed _ _ h .1) in
+    let v = all-passed _ _ (t .1) in
+    let b = all-passed _ _ (v .1) in
+    (passed-table (r .table) (t .0), passed-values r vs (v .0), passed-reply 64 room (b .0))
+
 module _ (r : Room) (few : Bool) (last : ℕ) (counts : List ℕ) (bytes : ℕ) (vs : List ℤ) (room n : ℕ) (e : n ≡ numberBy r few last counts bytes vs room) (z : n ≡ 0) where
   pub none-length : length counts ≡ 32
   none-length = fit-passed r few last counts bytes vs room (sym e ∙ z) .0
@@ -70,6 +85,17 @@ module _ (r : Room) (few : Bool) (last : ℕ) (counts : List ℕ) (bytes : ℕ) 
 
   pub none-last : last ≤ 31
   none-last = let h = fit-passed r few last counts bytes vs room (sym e ∙ z) .2 in omega arith
+
+  pub none-values : valuesSound r vs ≡ true
+  none-values = lent-passed r few last counts bytes vs room (sym e ∙ z) .1
+
+  pub none-reply : 64 ≤ room
+  none-reply = lent-passed r few last counts bytes vs room (sym e ∙ z) .2
+
+-- the table's own, of a room of lent lists
+pub none-table : (t : List ℕ) (few : Bool) (last : ℕ) (counts : List ℕ) (bytes : ℕ) (vs : List ℤ) (room n : ℕ) → n ≡ numberBy (roomOf t) few last counts bytes vs room → n ≡ 0
+    → sound t ≡ true
+none-table t few last counts bytes vs room n e z = lent-passed (roomOf t) few last counts bytes vs room (sym e ∙ z) .0
 
 -- ---- the three ways
 
@@ -103,4 +129,4 @@ module _ (r : Room) (s : Survey) (last : ℕ) (counts given : List ℕ) (vs : Li
       → TurnsOne r s last counts given vs buffer c d vs′ buffer′
   turn-served d vs′ buffer′ z k = accepted (sym e ∙ z) k
 
-pub ruleset turning = (none-length, none-total, none-last, turn-refused, turn-accepted, turn-served)
+pub ruleset turning = (none-length, none-total, none-last, none-table, none-values, none-reply, turn-refused, turn-accepted, turn-served)

@@ -10,6 +10,7 @@ take-spec =
     (tie.spec
     (λ c κs. search (taking, needs))  -- all-rows-requires
     (λ c κs. search (taking, needs))  -- call-number-requires
+    (λ c κs. search (taking, needs))  -- refused-requires
     (λ c. search (taking, needs))  -- same-length
     (λ c. search (taking, needs))  -- returns
     (λ c κs. ((search (taking, needs), search (taking, needs), search (taking, needs)), (search (taking, needs), search (taking, needs))))  -- serve-requires

@@ -1,0 +1,4 @@
+-- The definitions of turns.
+pub mod Command
+pub mod Input
+pub mod Play
