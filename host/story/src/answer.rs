@@ -1,10 +1,8 @@
 //! The answer: what the core says to a wish, and what its list does.
 
-use egrivundo::{Beyond, Index, Kind, List, Port, Refusal, Reply, Room, Size, Type, Why};
-
-use crate::value::value_text;
-use crate::wish_file::Wish;
-use crate::words::{counted, listed};
+use egrivundo::{Index, Kind, List, Port, Refusal, Reply, Room, Size, Type};
+use files::words::{counted, listed};
+use files::{Hindrance, Wish};
 
 pub enum Answer {
     Yes(Yes),
@@ -47,26 +45,13 @@ impl Changed {
     }
 }
 
-/// A wanted change that cannot be reached.
-pub struct Hindrance {
-    /// The parameter: `0>1 of Desk`.
-    pub what: String,
-    pub why: String,
-    /// The line of the wish file that wants it.
-    pub line: Option<usize>,
-    pub present: String,
-    pub wanted: String,
-}
-
 /// Asks the core for the size of the list and shows it; then asks for the list
 /// and plays it.
 pub fn ask(room: &Room, wish: &Wish, show: impl FnOnce(Size)) -> Result<Answer, String> {
     let size = match wish.core.size() {
         Ok(size) => size,
         Err(Refusal::Reach) => {
-            let beyond = wish.core.beyond_reach();
-            let hindrances = beyond.iter().map(|beyond| hindrance(room, wish, beyond));
-            return Ok(Answer::No(hindrances.collect()));
+            return Ok(Answer::No(Hindrance::all(room, wish)));
         }
         Err(refusal) => return Err(refusal.to_string()),
     };
@@ -113,29 +98,6 @@ fn changes(before: &Room, after: &Room) -> Vec<Changed> {
         }
     });
     changed.collect()
-}
-
-fn hindrance(room: &Room, wish: &Wish, beyond: &Beyond) -> Hindrance {
-    let modules: Vec<_> = room.modules().collect();
-    let module = modules[beyond.module];
-    let label = String::from_utf8_lossy(module.label);
-    let row = module.kind.rows()[beyond.place - module.start];
-    let why = match beyond.why {
-        Why::ReadOnly => "it is read-only".to_string(),
-        _ => {
-            let bearers = (1..).zip(&modules).filter(|(_, m)| m.label == module.label);
-            let numbers: Vec<String> = bearers.map(|(number, _)| number.to_string()).collect();
-            let numbers = listed(&numbers);
-            format!("modules {numbers} bear the same label, and lines reach none of them")
-        }
-    };
-    Hindrance {
-        what: format!("{} of {label}", beyond.index),
-        why,
-        line: wish.given.line(beyond.place),
-        present: value_text(row.kind, room.values()[beyond.place]),
-        wanted: value_text(row.kind, wish.core.wanted()[beyond.place]),
-    }
 }
 
 impl Answer {

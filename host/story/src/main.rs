@@ -4,28 +4,20 @@
 //! `help.txt` has the options, `host/README.md` the form of the files.
 
 mod answer;
-mod given;
 mod html;
-mod lines;
 mod options;
 mod paint;
-mod parameter;
-mod room_file;
-mod saved;
 mod text;
-mod types;
-mod value;
-mod wish_file;
-mod words;
 
 use std::io::Write;
 use std::path::Path;
 use std::process::ExitCode;
-use std::{env, fs, io};
+use std::{env, io};
 
 use answer::Answer;
+use files::words::counted;
+use files::{room_file, saved, wish_file, Fault};
 use options::{From, Options, HELP};
-use words::counted;
 
 fn main() -> ExitCode {
     match options::read(env::args_os().skip(1)) {
@@ -49,8 +41,8 @@ fn play(options: &Options) -> Result<ExitCode, String> {
     let room = read_room(&options.room)?;
     let (wish, wish_name) = match &options.from {
         From::Wish(path) => {
-            let (text, name) = read(path)?;
-            let wish = wish_file::parse(&text, &room).map_err(|fault| fault.in_file(&name))?;
+            let (text, name) = files::read_text(path)?;
+            let wish = wish_file::parse(&text, &room).map_err(|fault| told(&fault, &name))?;
             (wish, name)
         }
         From::Saved(path, labels) => {
@@ -73,19 +65,15 @@ fn play(options: &Options) -> Result<ExitCode, String> {
 fn write(options: &Options, answer: &Answer) -> Result<(), String> {
     if let (Some(path), Answer::Yes(yes)) = (&options.list, answer) {
         let bytes = yes.list.bytes();
-        write_file(path, bytes)?;
+        files::write(path, bytes)?;
         let bytes = counted(bytes.len(), "byte");
         print(&format!("\nThe list, {bytes}: {}\n", path.display()));
     }
     if let Some(path) = &options.html {
-        write_file(path, html::page(answer, options.all).as_bytes())?;
+        files::write(path, html::page(answer, options.all).as_bytes())?;
         print(&format!("\nThe page: {}\n", path.display()));
     }
     Ok(())
-}
-
-fn write_file(path: &Path, bytes: &[u8]) -> Result<(), String> {
-    fs::write(path, bytes).map_err(|error| format!("{}: {error}", path.display()))
 }
 
 /// To standard output, which a reader may have closed.
@@ -94,20 +82,15 @@ fn print(text: &str) {
 }
 
 fn read_room(path: &Path) -> Result<egrivundo::Room, String> {
-    let (text, name) = read(path)?;
-    room_file::parse(&text).map_err(|fault| fault.in_file(&name))
+    let (text, name) = files::read_text(path)?;
+    room_file::parse(&text).map_err(|fault| told(&fault, &name))
 }
 
-fn read(path: &Path) -> Result<(String, String), String> {
-    let name = path.display().to_string();
-    let bytes = fs::read(path).map_err(|error| format!("{name}: {error}"))?;
-    match String::from_utf8(bytes) {
-        Ok(text) => Ok((text, name)),
-        Err(error) => {
-            let good = &error.as_bytes()[..error.utf8_error().valid_up_to()];
-            let line = 1 + good.iter().filter(|&&byte| byte == b'\n').count();
-            let fault = lines::Fault::new(line, "this is no text in UTF-8");
-            Err(fault.in_file(&name))
-        }
-    }
+/// A fault, with the order of the files where they are exchanged.
+fn told(fault: &Fault, name: &str) -> String {
+    let order = match fault.is_exchanged() {
+        true => " The room comes first, the wish last: ./run ROOM WISH",
+        false => "",
+    };
+    fault.in_file(name) + order
 }

@@ -3,7 +3,7 @@
 use std::ffi::OsString;
 use std::path::PathBuf;
 
-use crate::words::counted;
+use files::words::counted;
 
 pub const HELP: &str = include_str!("help.txt");
 

@@ -4,11 +4,12 @@
 use std::fmt::Write;
 
 use egrivundo::{Kind, Size};
+use files::value::{turned, value_text};
+use files::words::counted;
+use files::Hindrance;
 
-use crate::answer::{Answer, Changed, Hindrance, Row, Yes};
+use crate::answer::{Answer, Changed, Row, Yes};
 use crate::paint::Paint;
-use crate::value::{turned, value_text};
-use crate::words::counted;
 
 /// Writing to a String does not fail.
 macro_rules! say {
@@ -44,18 +45,7 @@ pub fn tell(answer: &Answer, wish_name: &str, all: bool, paint: Paint) -> String
 fn hindered(out: &mut String, hindrances: &[Hindrance], wish_name: &str) {
     say!(out, "");
     for hindrance in hindrances {
-        let place = match hindrance.line {
-            Some(line) => format!("{wish_name}:{line}"),
-            None => wish_name.to_string(),
-        };
-        let Hindrance {
-            what,
-            why,
-            present,
-            wanted,
-            ..
-        } = hindrance;
-        say!(out, "{place}: {what} is {present}, not {wanted}: {why}");
+        say!(out, "{}", hindrance.told(wish_name));
     }
     say!(
         out,

@@ -2,8 +2,10 @@
 
 use std::fmt::Write;
 
-use crate::answer::{Answer, Changed, Hindrance, Yes};
-use crate::words::counted;
+use files::words::counted;
+use files::Hindrance;
+
+use crate::answer::{Answer, Changed, Yes};
 
 mod row;
 

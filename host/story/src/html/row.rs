@@ -3,10 +3,10 @@
 use std::fmt::Write;
 
 use egrivundo::{bit, Kind};
+use files::value::{outputs, turned, value_text};
 
 use super::escaped;
 use crate::answer::Row;
-use crate::value::{outputs, turned, value_text};
 
 /// A parameter that moved: from, to, and a small picture of it.
 pub fn moved(out: &mut String, row: &Row) {

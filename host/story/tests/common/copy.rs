@@ -53,7 +53,12 @@ pub struct Copy {
 impl Copy {
     pub fn new(test: &str, compilers: &[&str]) -> Copy {
         let folder = Folder::new(test);
-        for name in ["run", "host/story/archive.sh", "host/story/src/help.txt"] {
+        for name in [
+            "run",
+            "host/program.sh",
+            "host/story/archive.sh",
+            "host/story/src/help.txt",
+        ] {
             folder.file(name, fs::read(root().join(name)).unwrap());
         }
         folder.file(
@@ -80,6 +85,7 @@ impl Copy {
         }
         for name in [
             "run",
+            "host/program.sh",
             "host/story/archive.sh",
             "bin/rt",
             "bin/cargo",

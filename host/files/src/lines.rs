@@ -1,11 +1,15 @@
 //! The form that both files share: one statement on a line.
 //!
-//!     # a remark
-//!     module REST
-//!     INDEX = VALUE     # a remark
+//! ```text
+//! # a remark
+//! module REST
+//! INDEX = VALUE     # a remark
+//! ```
 //!
 //! A byte-order mark before the first line means nothing, and a tab is as
 //! good as a space.
+
+use crate::types::{ROOM_GIVEN, WISH_GIVEN};
 
 /// What is wrong, and on which line.
 #[derive(Debug, PartialEq, Eq)]
@@ -20,6 +24,11 @@ impl Fault {
             line,
             message: message.into(),
         }
+    }
+
+    /// Whether a room is given for a wish, or a wish for a room.
+    pub fn is_exchanged(&self) -> bool {
+        [WISH_GIVEN, ROOM_GIVEN].contains(&&self.message[..])
     }
 
     /// The fault as it is told: file, line, message.

@@ -1,8 +1,10 @@
 //! Room files: the modules and their present values.
 //!
-//!     module TYPE "LABEL"
-//!     module standard-mixer "LABEL" 8x4
-//!     INDEX = VALUE
+//! ```text
+//! module TYPE "LABEL"
+//! module standard-mixer "LABEL" 8x4
+//! INDEX = VALUE
+//! ```
 //!
 //! A value that is not given starts at 0 where its row permits it, else at
 //! the row's low. Outputs of a word that are not given are off.
@@ -15,6 +17,11 @@ use crate::parameter::read_setting;
 use crate::types::read_module;
 
 pub fn parse(text: &str) -> Result<Room, Fault> {
+    parse_given(text).map(|(room, _)| room)
+}
+
+/// The room, and which lines give its values.
+pub fn parse_given(text: &str) -> Result<(Room, Given), Fault> {
     let mut modules: Vec<(Type, &str)> = Vec::new();
     let mut values: Vec<i64> = Vec::new();
     let mut start = 0;
@@ -45,7 +52,8 @@ pub fn parse(text: &str) -> Result<Room, Fault> {
     let end = text.lines().count().max(1);
     let refused = |refusal: egrivundo::Refusal| Fault::new(end, refusal.to_string());
     let table = Room::new(&modules).map_err(refused)?.table().to_vec();
-    Room::from_parts(table, values).map_err(refused)
+    let room = Room::from_parts(table, values).map_err(refused)?;
+    Ok((room, given))
 }
 
 #[cfg(test)]
@@ -71,6 +79,17 @@ mod tests {
             room.values(),
             [-30, 0, 0, 0, 0, 0, 0, 0, 0, 1, word, word, 1]
         );
+    }
+
+    #[test]
+    fn what_is_given() {
+        let text = "module 7 \"M\" 2x2\n1>1 = 0\n3>1 = 00000000\n4>(2,1) = on\n4>(2,2) = off\n\
+                    module 7 \"N\" 1x2\n4>(1,1) = on\n";
+        let (room, given) = parse_given(text).unwrap();
+        let whole = given.whole(&room);
+        let places: Vec<usize> = (0..whole.len()).filter(|&place| whole[place]).collect();
+        // A word is given by its line, or by a line for each of its outputs.
+        assert_eq!((places, whole.len()), (vec![0, 8, 9], 17));
     }
 
     #[test]

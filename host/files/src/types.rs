@@ -6,13 +6,15 @@ use crate::lines::{quoted, Fault};
 
 const MIXER: &str = "standard-mixer";
 
-const WISH_GIVEN: &str = "this is a wish, where a room is expected: in a room each module has its \
-                          type before the label. The room comes first: ./run ROOM WISH";
+/// Said of a wish that is given as a room.
+pub const WISH_GIVEN: &str =
+    "this is a wish, where a room is expected: in a room each module has its \
+                              type before the label.";
 
 /// Said of a room that is given as a wish.
 pub const ROOM_GIVEN: &str =
     "this is a room, where a wish is expected: in a wish a module is named \
-                              by its label alone. The wish comes last: ./run ROOM WISH";
+                              by its label alone.";
 
 /// Type and label of a room's module: `TYPE "LABEL"`, and behind a mixer's
 /// label its size, `8x4` for eight inputs and four outputs.
@@ -39,6 +41,16 @@ pub fn read_module(text: &str, line: usize) -> Result<(Type, &str), Fault> {
         return Err(Fault::new(line, message));
     };
     Ok((kind, quoted(label, line)?))
+}
+
+/// What `read_module` reads.
+pub fn module_text(kind: Type, label: &str) -> String {
+    match kind {
+        Type::StandardMixer { inputs, outputs } => {
+            format!("{MIXER} \"{label}\" {inputs}x{outputs}")
+        }
+        fixed => format!("{} \"{label}\"", word(fixed)),
+    }
 }
 
 fn read_size(text: &str) -> Option<u8> {

@@ -1,7 +1,9 @@
 //! Wish files: the chosen modules and what is wanted of them.
 //!
-//!     module "LABEL"
-//!     INDEX = VALUE
+//! ```text
+//! module "LABEL"
+//! INDEX = VALUE
+//! ```
 //!
 //! `module NUMBER` chooses by the place in the room, from 1. A value of a
 //! chosen module that is not given is wanted as it is at present, and so is an

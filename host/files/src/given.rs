@@ -2,6 +2,8 @@
 
 use std::collections::HashMap;
 
+use egrivundo::{Kind, Room, Type};
+
 use crate::lines::Fault;
 
 /// By a value's place: each line that gives it, with the output where it gives
@@ -37,6 +39,23 @@ impl Given {
     /// What is given of a value, line by line.
     pub fn of(&self, place: usize) -> impl Iterator<Item = (Option<u16>, usize)> + '_ {
         self.0.get(&place).into_iter().flatten().copied()
+    }
+
+    /// By place, of a room's values: whether all of the value is given.
+    pub fn whole(&self, room: &Room) -> Vec<bool> {
+        let modules = room.modules().flat_map(|module| {
+            let rows = module.kind.rows().into_iter().enumerate();
+            rows.map(move |(number, row)| {
+                let place = module.start + number;
+                let outputs = match (module.kind, row.kind) {
+                    (Type::StandardMixer { outputs, .. }, Kind::Word) => usize::from(outputs),
+                    _ => 1,
+                };
+                self.of(place).any(|(output, _)| output.is_none())
+                    || self.of(place).count() == outputs
+            })
+        });
+        modules.collect()
     }
 }
 
