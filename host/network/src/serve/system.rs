@@ -16,8 +16,8 @@ const DEFAULT: usize = 0;
 const IGNORE: usize = 1;
 
 /// Level, option and value: ask a peer that was silent for a minute, each ten
-/// seconds, and give it up after six questions; and give up one that takes no
-/// byte of a reply for two minutes.
+/// seconds, and give it up after six questions; and give up one whose system
+/// confirms no byte of a reply for two minutes.
 const KEEP_ALIVE: [[c_int; 3]; 5] = [
     [1, 9, 1],
     [6, 4, 60],
