@@ -2,9 +2,9 @@
 pub mod Laws
 pub mod Telling
 use Rattle.std.specs.Prelude.{List, [], ◌∷◌, ℕ, ◌-◌}
-use Rattle.log.specs.LogPart.{log_part}
-use Rattle.log.specs.declared.part.LogPart.{LogPart}
-use Rattle.log.specs.declared.part.LogPart.TheVariants.{Table, Line, Nothing}
+use Rattle.line_log.specs.LogPart.{log_part}
+use Rattle.line_log.specs.declared.part.LogPart.{LogPart}
+use Rattle.line_log.specs.declared.part.LogPart.TheVariants.{Table, Line, Nothing}
 
 -- 1 for the table or 0 for the line, the start of the part, and its length
 unfoldable pub part_told : LogPart → List ℕ

@@ -1,4 +1,6 @@
 // The library's calls for C: each is thin over the proved library, and none asks anything of its caller.
+#![tactic(auto)]
+
 pub mod connection_bytes;
 pub mod fault;
 pub mod place;
@@ -19,7 +21,7 @@ ghost use Rattle.capi.specs.Restore.{restore_answer, restore_tells, size_answer,
 
 use crate::fault::fault_numbers;
 use crate::port_bytes::{port_of, store};
-use log::part::{LogPart, log_part};
+use line_log::part::{LogPart, log_part};
 use panel::change;
 use restore::{restore_size, restore_write};
 use room::table::check;

@@ -1,7 +1,7 @@
 // The layout of a module: what its record says of its rows.
 
 // The module's kind, and how many inputs and outputs it has; 0 where its kind has a fixed number of rows.
-#[derive(Drop)]
+#[derive(Clone, Copy)]
 pub struct Layout {
     pub kind: u8,
     pub inputs: u8,

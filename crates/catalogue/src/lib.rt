@@ -1,4 +1,6 @@
 // The catalogue: the rows of the module types, which values each permits, and the one constant table.
+#![tactic(auto)]
+
 pub mod groups;
 pub mod layout;
 pub mod lent_row;

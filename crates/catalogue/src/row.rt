@@ -3,13 +3,13 @@ ghost use Rattle.std.specs.Prelude.{◌≡◌};
 ghost use Rattle.catalogue.specs.Row.{RowFits, permitted, same_indices, start};
 
 // The index groups of a row: a missing second group is not a second index 0.
-#[derive(Drop)]
+#[derive(Clone, Copy)]
 pub enum Indices {
     OneGroup(u64),
     TwoGroups(u64, u64),
 }
 
-#[derive(Drop)]
+#[derive(Clone, Copy)]
 pub enum Kind {
     Level,
     Switch,
@@ -17,7 +17,7 @@ pub enum Kind {
     Word,
 }
 
-#[derive(Drop)]
+#[derive(Clone, Copy)]
 pub struct Row {
     pub indices: Indices,
     pub kind: Kind,

@@ -8,14 +8,14 @@ use crate::turn::turn;
 use crate::turning::Turned;
 
 // The row after a connection was to be opened or closed, and the number of a refusal or 0.
-#[derive(Drop)]
+#[derive(Clone, Copy)]
 pub struct RowSwitched {
     pub row: [Connection; 32],
     pub number: u8,
 }
 
 // The row after a turn, and what the turn tells.
-#[derive(Drop)]
+#[derive(Clone, Copy)]
 pub struct RowTurned {
     pub row: [Connection; 32],
     pub turned: Turned,

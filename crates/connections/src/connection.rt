@@ -4,21 +4,21 @@ ghost use Rattle.connections.specs.Connections.{FreshRow, SwitchesOne, Switches,
 
 use serial_port::port::Port;
 
-#[derive(Drop)]
+#[derive(Clone, Copy)]
 pub struct Connection {
     pub is_open: bool,
     pub port: Port,
 }
 
 // A row, and the last served.
-#[derive(Drop)]
+#[derive(Clone, Copy)]
 pub struct Fresh {
     pub row: [Connection; 32],
     pub last: usize,
 }
 
 // A connection after it was to be opened or closed, and the number of a refusal or 0.
-#[derive(Drop)]
+#[derive(Clone, Copy)]
 pub struct Switched {
     pub connection: Connection,
     pub number: u8,

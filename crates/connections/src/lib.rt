@@ -1,4 +1,6 @@
 // Thirty-two connections over one room: whose turn it is, and which of the waiting bytes are its own.
+#![tactic(auto)]
+
 pub mod by_value;
 pub mod connection;
 pub mod number;

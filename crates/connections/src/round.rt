@@ -3,7 +3,7 @@ ghost use Rattle.std.specs.Prelude.{◌≡◌, ◌<◌, ◌≤◌, length};
 ghost use Rattle.connections.specs.Round.{last_after, next, waits_by};
 
 // The connection that a turn serves, or nobody.
-#[derive(Drop)]
+#[derive(Clone, Copy)]
 pub enum Served {
     Nobody,
     One(usize),

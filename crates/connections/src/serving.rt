@@ -11,7 +11,7 @@ use line::fault::Fault;
 use serial_port::port::Port;
 
 // What the port call of a connection answered: how many bytes it consumed and sent, why the reply is 99, and the number of a refusal or 0.
-#[derive(Drop)]
+#[derive(Clone, Copy)]
 pub struct PortAnswer {
     pub consumed: usize,
     pub sent: usize,
@@ -20,7 +20,7 @@ pub struct PortAnswer {
 }
 
 // A connection after its port call, and what that answered.
-#[derive(Drop)]
+#[derive(Clone, Copy)]
 pub struct ServedOne {
     pub connection: Connection,
     pub answer: PortAnswer,

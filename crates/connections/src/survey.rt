@@ -7,7 +7,7 @@ use crate::connection::Connection;
 use serial_port::refusal::HELD;
 
 // What is noted of the connections of a row.
-#[derive(Drop)]
+#[derive(Clone, Copy)]
 pub struct Survey {
     pub few: bool,
     pub flags: [bool; 32],

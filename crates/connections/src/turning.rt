@@ -18,7 +18,7 @@ use catalogue::table::all_rows;
 use line::fault::Fault;
 
 // What a turn tells: whom it served, how many bytes the call consumed and sent, why the reply is 99, and the number of a refusal or 0.
-#[derive(Drop)]
+#[derive(Clone, Copy)]
 pub struct Turned {
     pub served: Served,
     pub consumed: usize,
@@ -28,7 +28,7 @@ pub struct Turned {
 }
 
 // A connection after a turn, and what the turn tells.
-#[derive(Drop)]
+#[derive(Clone, Copy)]
 pub struct TurnedOne {
     pub connection: Connection,
     pub turned: Turned,

@@ -23,7 +23,7 @@ use syntax::shape::{Shape, shape_of};
 use values::parameter::Parameter;
 
 // How many bytes the reply has, and why it is 99.
-#[derive(Drop)]
+#[derive(Clone, Copy)]
 pub struct Answered {
     pub sent: usize,
     pub fault: Fault,

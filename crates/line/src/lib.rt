@@ -1,4 +1,6 @@
 // What a line means in a room, and the answer to it.
+#![tactic(auto)]
+
 pub mod answer;
 pub mod fault;
 pub mod meaning;

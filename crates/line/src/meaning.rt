@@ -23,7 +23,7 @@ use values::control::{ControlFound, named};
 use values::parameter::Parameter;
 
 // Why the line is malformed and where, a code that it is answered with, a part of a parameter to tell, or a parameter and the value it is set to.
-#[derive(Drop)]
+#[derive(Clone, Copy)]
 pub enum Meaning {
     Malformed(Cause, usize),
     Code(u8),

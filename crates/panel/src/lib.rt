@@ -1,4 +1,6 @@
 // A change at a wall panel: one value is set without a line, and told where the module's label begins with `#`.
+#![tactic(auto)]
+
 ghost use Rattle.std.specs.Prelude.{true, ◌≡◌, ◌+◌, ◌<◌, ◌≤◌, pos, get_or, length, set};
 ghost use Rattle.text.specs.Written.{Wrote};
 ghost use Rattle.values.specs.Parameters.{place};
@@ -18,7 +20,7 @@ use values::parameter::{Parameter, ParameterFound};
 use values::values_number;
 
 // How many bytes the notice has, and the number of a refusal or 0.
-#[derive(Drop)]
+#[derive(Clone, Copy)]
 pub struct Changed {
     pub sent: usize,
     pub number: u8,

@@ -10,7 +10,7 @@ use serial_port::port::Port;
 use serial_port::stream::serve_all;
 
 // The port after some bytes, and how many bytes their replies have.
-#[derive(Drop)]
+#[derive(Clone, Copy)]
 pub struct Answered {
     pub port: Port,
     pub sent: usize,

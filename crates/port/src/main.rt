@@ -1,4 +1,6 @@
 // Serves the lines of standard input over the module table in the file `table`, and writes the replies alone.
+#![tactic(auto)]
+
 mod bytes;
 mod input;
 mod standard_input;

@@ -11,7 +11,7 @@ use libc::{STDIN_FILENO, STDOUT_FILENO};
 use serial_port::port::Port;
 
 // What came of a read: nothing, or so many bytes, whose replies were written, or could not be.
-#[derive(Drop)]
+#[derive(Clone, Copy)]
 pub enum Came {
     Nothing,
     Written(usize),
@@ -19,7 +19,7 @@ pub enum Came {
 }
 
 // The port after a read, and what came of it.
-#[derive(Drop)]
+#[derive(Clone, Copy)]
 pub struct Turn {
     pub port: Port,
     pub came: Came,

@@ -1,4 +1,6 @@
 // The two restore calls, with demand 3 in their contracts: how long the list is, and writing it.
+#![tactic(auto)]
+
 ghost use Rattle.catalogue.specs.Catalogue.{numbers};
 ghost use Rattle.std.specs.Prelude.{true, ◌≡◌};
 ghost use Rattle.room.specs.Table.{sound};
@@ -16,7 +18,7 @@ use values::values_number;
 use wish::{selection_right, wanted_right};
 
 // The bytes and the lines of the list, and the number of a refusal or 0.
-#[derive(Drop)]
+#[derive(Clone, Copy)]
 pub struct Restored {
     pub bytes: usize,
     pub lines: usize,

@@ -1,4 +1,6 @@
 // The restore list, measured and written.
+#![tactic(auto)]
+
 pub mod list;
 pub mod listed_measuring;
 pub mod listed_writing;

@@ -13,7 +13,7 @@ use spelling::set_line::say_line_length;
 use values::parameter::Parameter;
 
 // The bytes and the lines of the list, or that a wanted change is beyond reach.
-#[derive(Drop)]
+#[derive(Clone, Copy)]
 pub enum Measured {
     Within(usize, usize),
     Beyond,

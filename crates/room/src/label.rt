@@ -12,7 +12,7 @@ use record::layout::layout_at;
 use text::cut::find;
 
 // The one module that bears a text, or that not exactly one does.
-#[derive(Drop)]
+#[derive(Clone, Copy)]
 pub enum Bearer {
     Only(Module),
     NotOne,

@@ -1,3 +1,5 @@
 // The module table of a room, and the one module that bears a label.
+#![tactic(auto)]
+
 pub mod label;
 pub mod table;

@@ -12,7 +12,7 @@ use record::layout::layout_at;
 pub const MODULES: usize = 64;
 
 // A module: its number and its place in the table, its layout, and the number of its first value.
-#[derive(Drop)]
+#[derive(Clone, Copy)]
 pub struct Module {
     pub number: usize,
     pub place: usize,
@@ -21,7 +21,7 @@ pub struct Module {
 }
 
 // A module, or that no module has the number.
-#[derive(Drop)]
+#[derive(Clone, Copy)]
 pub enum ModuleFound {
     At(Module),
     Nothing,

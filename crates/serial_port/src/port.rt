@@ -23,7 +23,7 @@ use text::cut::find;
 use text::written::put_bytes;
 
 // The bytes of the unfinished line, how many they are, and whether the line has overrun.
-#[derive(Drop)]
+#[derive(Clone, Copy)]
 pub struct Port {
     pub held: [u8; Port::HELD],
     pub len: usize,
@@ -31,7 +31,7 @@ pub struct Port {
 }
 
 // The port with the longer line, how many bytes were consumed, and whether they finished the line.
-#[derive(Drop)]
+#[derive(Clone, Copy)]
 pub struct Gathered {
     pub port: Port,
     pub consumed: usize,
@@ -39,7 +39,7 @@ pub struct Gathered {
 }
 
 // The port handed back, how many bytes were consumed and how many sent as the reply, why that is 99, and the number of a refusal or 0.
-#[derive(Drop)]
+#[derive(Clone, Copy)]
 pub struct Called {
     pub port: Port,
     pub consumed: usize,

@@ -9,7 +9,7 @@ ghost use Rattle.serial_port.specs.Stream.{Serves};
 use crate::port::Port;
 
 // The port handed back, and how many bytes were consumed and how many sent as replies.
-#[derive(Drop)]
+#[derive(Clone, Copy)]
 pub struct Served {
     pub port: Port,
     pub consumed: usize,

@@ -1,4 +1,6 @@
 // How replies and set lines are spelled.
+#![tactic(auto)]
+
 pub mod acknowledgement;
 pub mod indices;
 pub mod line;

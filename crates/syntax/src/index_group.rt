@@ -8,7 +8,7 @@ use text::cut::find;
 use text::number::{Number, read_number};
 
 // What the text of a group says, or that it is none.
-#[derive(Drop)]
+#[derive(Clone, Copy)]
 pub enum GroupText {
     Right(Group),
     Wrong,

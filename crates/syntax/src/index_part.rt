@@ -8,7 +8,7 @@ use catalogue::groups::{Group, Groups};
 use text::cut::find;
 use text::number::{Number, read_number};
 
-#[derive(Drop)]
+#[derive(Clone, Copy)]
 pub enum IndexPart {
     Right(Groups),
     Wrong,

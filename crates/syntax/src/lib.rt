@@ -1,4 +1,6 @@
 // The parts of a line: its shape, its index part, its value text.
+#![tactic(auto)]
+
 pub mod cause;
 pub mod index_group;
 pub mod index_part;

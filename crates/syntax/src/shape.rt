@@ -8,7 +8,7 @@ use crate::cause::Cause;
 use text::cut::find;
 
 // The parts of a line by their places: the opening and the closing quote and, in a set line, the `=`. Or why the line is malformed, and the byte where it shows.
-#[derive(Drop)]
+#[derive(Clone, Copy)]
 pub enum Shape {
     Malformed(Cause, usize),
     Get(usize, usize),
@@ -16,7 +16,7 @@ pub enum Shape {
 }
 
 // The places of a line's two quotes, or which one is missing, and where it shows.
-#[derive(Drop)]
+#[derive(Clone, Copy)]
 enum Quotes {
     At(usize, usize),
     Missing(Cause, usize),

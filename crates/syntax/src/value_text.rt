@@ -16,7 +16,7 @@ use text::sign::magnitude;
 use text::switch::{Switch, read_switch};
 use text::word::{Word, bit_of, read_word, with_bit};
 
-#[derive(Drop)]
+#[derive(Clone, Copy)]
 pub enum ValueText {
     Value(i64),
     Wrong,

@@ -10,14 +10,14 @@ use crate::sign::{magnitude, with_sign};
 use crate::written::put_byte;
 
 // What a level text says, in tenths of a dB, or that it is none.
-#[derive(Drop)]
+#[derive(Clone, Copy)]
 pub enum Level {
     Tenths(i64),
     Wrong,
 }
 
 // A level text as far as it is read: the number is what the digits say, and the flag tells whether a `-` stands before them.
-#[derive(Drop)]
+#[derive(Clone, Copy)]
 enum Reading {
     Start,
     Sign,

@@ -1,4 +1,6 @@
 // Numbers, levels, switches and routing words as text: read, measured, and written into a lent buffer.
+#![tactic(auto)]
+
 pub mod cut;
 pub mod digit;
 pub mod hex;

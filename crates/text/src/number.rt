@@ -8,7 +8,7 @@ use crate::digit::{digit_of, is_digit};
 use crate::written::put_byte;
 
 // What a number text says, or that it is none.
-#[derive(Drop)]
+#[derive(Clone, Copy)]
 pub enum Number {
     Value(u64),
     Wrong,

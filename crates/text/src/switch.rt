@@ -6,7 +6,7 @@ ghost use Rattle.text.specs.Written.{Wrote};
 use crate::written::put_byte;
 
 // What a switch text says, or that it is none.
-#[derive(Drop)]
+#[derive(Clone, Copy)]
 pub enum Switch {
     On,
     Off,

@@ -6,7 +6,7 @@ ghost use Rattle.text.specs.Written.{Wrote};
 use crate::hex::{hex_digit, hex_value, is_hex_digit};
 
 // What a word's text says, or that it is none.
-#[derive(Drop)]
+#[derive(Clone, Copy)]
 pub enum Word {
     Value(u64),
     Wrong,

@@ -3,7 +3,7 @@ ghost use Rattle.std.specs.Prelude.{◌≡◌, ◌*◌, ◌≤◌, length};
 ghost use Rattle.turns.specs.Command.{command_of};
 
 // Opening or closing a connection, a turn, or nothing that the program knows.
-#[derive(Drop)]
+#[derive(Clone, Copy)]
 pub enum Command {
     Switch(bool, usize),
     Turn,

@@ -1,4 +1,6 @@
 // Plays the commands of standard input over a row of 32 connections and the module table in the file `table`, and writes what each tells, and its reply.
+#![tactic(auto)]
+
 mod command;
 mod input;
 mod play;

@@ -10,7 +10,7 @@ use connections::connection::Connection;
 use connections::round::last_after;
 
 // The row and the last served after a command, the bytes that tell of it and how many of these are to be written, 0 where it is none, and the length of the reply.
-#[derive(Drop)]
+#[derive(Clone, Copy)]
 pub struct Played {
     pub row: [Connection; 32],
     pub last: usize,

@@ -13,14 +13,14 @@ use catalogue::{is_fixed, row_count};
 use room::table::Module;
 
 // A parameter and the part of it, or that nothing is named.
-#[derive(Drop)]
+#[derive(Clone, Copy)]
 pub enum ControlFound {
     At(Parameter, Part),
     Nothing,
 }
 
 // What index groups seek in a module: a part of the row with these indices, or nothing.
-#[derive(Drop)]
+#[derive(Clone, Copy)]
 enum Sought {
     Row(Indices, Part),
     Nothing,

@@ -1,4 +1,6 @@
 // The value list of a room: which parameter each value is of, and which lists are right.
+#![tactic(auto)]
+
 pub mod by_row;
 pub mod control;
 pub mod mixer_values;

@@ -13,14 +13,14 @@ use record::layout::layout_at;
 use room::table::Module;
 
 // A parameter: its module, the number of its row in the module, and the row.
-#[derive(Drop)]
+#[derive(Clone, Copy)]
 pub struct Parameter {
     pub owner: Module,
     pub number: usize,
     pub row: Row,
 }
 
-#[derive(Drop)]
+#[derive(Clone, Copy)]
 pub enum ParameterFound {
     At(Parameter),
     Nothing,

@@ -1,4 +1,5 @@
 // The chosen modules and their wanted values, and the restore list as a definition.
+#![tactic(auto)]
 
 ghost use Rattle.std.specs.Prelude.{not, true, ◌||◌, ◌≡◌, eqb, length};
 ghost use Rattle.catalogue.specs.Catalogue.{known_layout, numbers, rows_of};

@@ -1,5 +1,7 @@
 // Plays worked lines: for each pair of arguments a table, and a script of lines, each followed by the reply that it must get. Then the restore
 // lists of the paper, each compared with the list that must come. What is expected wrongly is reported so.
+#![tactic(auto)]
+
 mod compare;
 mod file;
 mod lists;

@@ -15,14 +15,14 @@ use values::VALUES;
 use values::starts::fill_starts;
 
 // How many lines, from the first on, were answered as the script says, and where it goes on behind them: its end where all were.
-#[derive(Drop)]
+#[derive(Clone, Copy)]
 pub struct Tally {
     pub right: usize,
     pub at: usize,
 }
 
 // The port after a line, how many bytes the line and the reply that the script says have, and whether the answer was that reply.
-#[derive(Drop)]
+#[derive(Clone, Copy)]
 pub struct Played {
     pub port: Port,
     pub passed: usize,

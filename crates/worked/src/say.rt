@@ -1,12 +1,12 @@
 // What the program prints.
 ghost use Rattle.std.specs.Prelude.{◌≡◌, ◌≤◌};
 ghost use denote.Ref.{at_last};
-ghost use Rattle.log.specs.Log.{log_label, placed};
+ghost use Rattle.line_log.specs.Log.{log_label, placed};
 ghost use Rattle.worked.specs.Script.{first_line};
 
 use crate::play::Tally;
 use libc::STDOUT_FILENO;
-use log::log_label;
+use line_log::log_label;
 use text::cut::find;
 
 fn say(text: &[u8]) {

@@ -2,7 +2,7 @@
 use Rattle.std.specs.Prelude.{◌≡◌, refl, false, List, [], ◌∷◌, ℕ}
 use Rattle.std.proofs.Common.{sym, ap}
 use Rattle.room.specs.Table.{sound}
-use Rattle.log.specs.LogPart.Showing.{no_table}
+use Rattle.line_log.specs.LogPart.Showing.{no_table}
 use Rattle.capi.specs.Log.{part_told, log_answer}
 
 -- a table that is not sound: three zeros

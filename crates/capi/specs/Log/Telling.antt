@@ -2,10 +2,10 @@
 use Rattle.std.specs.Prelude.{◌≡◌, List, [], ◌∷◌, ℕ, ◌-◌}
 use Rattle.std.proofs.Math.Path.{sym, ap}
 use Rattle.std.proofs.Common.{◌∙◌}
-use Rattle.log.specs.LogPart.{log_part}
-use Rattle.log.specs.Log.Lending.{table_order, line_order}
-use Rattle.log.specs.declared.part.LogPart.{LogPart}
-use Rattle.log.specs.declared.part.LogPart.TheVariants.{Table, Line, Nothing}
+use Rattle.line_log.specs.LogPart.{log_part}
+use Rattle.line_log.specs.Log.Lending.{table_order, line_order}
+use Rattle.line_log.specs.declared.part.LogPart.{LogPart}
+use Rattle.line_log.specs.declared.part.LogPart.TheVariants.{Table, Line, Nothing}
 use Rattle.capi.specs.Log.{part_told, log_answer}
 
 module _ (t line : List ℕ) (p : LogPart) (e : p ≡ log_part t line) where

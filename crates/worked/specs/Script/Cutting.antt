@@ -8,8 +8,8 @@ use Rattle.std.specs.Int.{w64}
 use Rattle.text.specs.Cut.{index_of}
 use Rattle.text.specs.Cut.Laws.{index_within}
 use Rattle.text.specs.Cut.Part.{part-counts}
-use Rattle.log.specs.Log.{log_label}
-use Rattle.log.specs.Log.Laws.{label-alike}
+use Rattle.line_log.specs.Log.{log_label}
+use Rattle.line_log.specs.Log.Laws.{label-alike}
 use Rattle.worked.specs.Script.{first_line, through}
 
 -- they are no longer than the script

@@ -4,7 +4,7 @@ use Rattle.catalogue.specs.Catalogue.Numbers.Reading.{reading}
 use Rattle.catalogue.proofs.lent_row.natural_at.Statement.{statement}
 use Rattle.catalogue.proofs.lent_row.natural_at.Tie as tie
 
-cast_result : tie.Need-overflow-cast-result
+cast_result : tie.Need-overflow_cast-result
 cast_result c = (search (reading, rules), search (reading, rules))
 
 returns : tie.Need-returns

@@ -10,7 +10,7 @@ returns c =
     let n = start.args.n in
     let inside = start.requires.1 in
     row_of-fields _ _ _ _ _ _ _
-    (taken_indices n inside _ _ _ c.before.indices-from.ensures c.before.before.before.before.before.before.before.before.natural-at.ensures c.before.before.before.before.before.before.before.number_at.ensures)
+    (taken_indices n inside _ _ _ c.before.indices_from.ensures c.before.before.before.before.before.before.before.before.natural-at.ensures c.before.before.before.before.before.before.before.number_at.ensures)
     (taken_kind n inside _ _ c.kind-from.ensures c.before.before.before.before.before.before.natural-at2.ensures)
     (taken_low n inside _ c.before.before.before.before.before.number-at2.ensures)
     (taken_high n inside _ c.before.before.before.before.number-at3.ensures)

@@ -6,18 +6,18 @@ use Rattle.text.specs.Level.Passed.{Passed, level-rules}
 use Rattle.text.proofs.level.read_level.Statement.{statement}
 use Rattle.text.proofs.level.read_level.Tie as tie
 
-abbrev invariant-loop : tie.invariant-loop
-invariant-loop s reading₀ i₀ reading i = Passed s reading i
+abbrev invariant-loop-i : tie.invariant-loop-i
+invariant-loop-i s reading₀ i₀ reading i = Passed s reading i
 
-abbrev decreases-loop : tie.decreases-loop
-decreases-loop s reading₀ i₀ reading i = length s - i
+abbrev decreases-loop-i : tie.decreases-loop-i
+decreases-loop-i s reading₀ i₀ reading i = length s - i
 
 pub read_level_spec : {M : Type 1} → statement M
 read_level_spec =
     tie.close
     (tie.spec
-    invariant-loop
-    decreases-loop
+    invariant-loop-i
+    decreases-loop-i
     (λ c. search (level-rules, rules))  -- loop-holds
     (λ c. search (level-rules, rules))  -- shared-slice-read-read-byte
     (λ c κs. search (level-rules, rules))  -- read-byte-requires

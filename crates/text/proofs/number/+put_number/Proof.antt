@@ -23,8 +23,8 @@ abbrev put_number_below : ℕ → In 1 put-number-kinds.ps
 put_number_below t =
     and 1 put-number-kinds.ps (falls 1 put-number-kinds.ps ◌<◌ μ-put-number t) put-number.Pre
 
-pub +put-number-spec : {M : Type 1} → statement M
-+put-number-spec = close μ-put-number λ t. put-number-lts.spec (
+pub +put_number_spec : {M : Type 1} → statement M
++put_number_spec = close μ-put-number λ t. put-number-lts.spec (
   put-byte-reads.Asked,
   put-byte-reads.Learnt,
   put_number_below t,

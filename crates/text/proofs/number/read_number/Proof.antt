@@ -7,18 +7,18 @@ use Rattle.text.specs.Number.Passed.{Passed, passing}
 use Rattle.text.proofs.number.read_number.Statement.{statement}
 use Rattle.text.proofs.number.read_number.Tie as tie
 
-abbrev invariant-loop : tie.invariant-loop
-invariant-loop s width n₀ i₀ n i = Passed width s n i
+abbrev invariant-loop-i : tie.invariant-loop-i
+invariant-loop-i s width n₀ i₀ n i = Passed width s n i
 
-abbrev decreases-loop : tie.decreases-loop
-decreases-loop s width n₀ i₀ n i = length s - i
+abbrev decreases-loop-i : tie.decreases-loop-i
+decreases-loop-i s width n₀ i₀ n i = length s - i
 
 pub read_number_spec : {M : Type 1} → statement M
 read_number_spec =
     tie.close
     (tie.spec
-    invariant-loop
-    decreases-loop
+    invariant-loop-i
+    decreases-loop-i
     (λ c. search (passing, rules))
     (λ c. search (passing, rules))
     (λ c. search (passing, rules))

@@ -7,18 +7,18 @@ use Rattle.text.specs.Word.Reading.{HexPassed, hex_passing}
 use Rattle.text.proofs.word.read_word.Statement.{statement}
 use Rattle.text.proofs.word.read_word.Tie as tie
 
-abbrev invariant-loop : tie.invariant-loop
-invariant-loop s n₀ i₀ n i = HexPassed s n i
+abbrev invariant-loop-i : tie.invariant-loop-i
+invariant-loop-i s n₀ i₀ n i = HexPassed s n i
 
-abbrev decreases-loop : tie.decreases-loop
-decreases-loop s n₀ i₀ n i = length s - i
+abbrev decreases-loop-i : tie.decreases-loop-i
+decreases-loop-i s n₀ i₀ n i = length s - i
 
 pub read_word_spec : {M : Type 1} → statement M
 read_word_spec =
     tie.close
     (tie.spec
-    invariant-loop
-    decreases-loop
+    invariant-loop-i
+    decreases-loop-i
     (λ c. search (hex_passing, rules))
     (λ c. search (hex_passing, rules))
     (λ c. search (hex_passing, rules))

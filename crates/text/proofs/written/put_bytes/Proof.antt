@@ -6,18 +6,18 @@ use Rattle.text.specs.Written.Laws.{Copied, copying}
 use Rattle.text.proofs.written.put_bytes.Statement.{statement}
 use Rattle.text.proofs.written.put_bytes.Tie as tie
 
-abbrev invariant-loop : tie.invariant-loop
-invariant-loop buffer₀ at source i₀ buffer i = Copied buffer₀ at source i buffer
+abbrev invariant-loop-i : tie.invariant-loop-i
+invariant-loop-i buffer₀ at source i₀ buffer i = Copied buffer₀ at source i buffer
 
-abbrev decreases-loop : tie.decreases-loop
-decreases-loop buffer₀ at source i₀ buffer i = length source - i
+abbrev decreases-loop-i : tie.decreases-loop-i
+decreases-loop-i buffer₀ at source i₀ buffer i = length source - i
 
 pub put_bytes_spec : {M : Type 1} → statement M
 put_bytes_spec =
     tie.close
     (tie.spec
-    invariant-loop
-    decreases-loop
+    invariant-loop-i
+    decreases-loop-i
     (λ c. search (copying, rules))
     (λ c. search (copying, rules))
     (λ c. search (copying, rules))

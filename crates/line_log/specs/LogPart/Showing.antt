@@ -14,10 +14,10 @@ use Rattle.room.specs.Table.{sound}
 use Rattle.room.specs.declared.label.Bearer.{Bearer}
 use Rattle.room.specs.declared.label.Bearer.TheVariants.{Only, NotOne}
 use Rattle.room.specs.declared.table.Module.{Module}
-use Rattle.log.specs.LogPart.{first_quote, second_quote, shown, log_part}
+use Rattle.line_log.specs.LogPart.{first_quote, second_quote, shown, log_part}
 use Rattle.room.specs.Label.Length.{label-short}
-use Rattle.log.specs.declared.part.LogPart.{LogPart}
-use Rattle.log.specs.declared.part.LogPart.TheVariants.{Table, Line, Nothing}
+use Rattle.line_log.specs.declared.part.LogPart.{LogPart}
+use Rattle.line_log.specs.declared.part.LogPart.TheVariants.{Table, Line, Nothing}
 use Rattle.text.specs.Cut.Laws.{index_within}
 use Rattle.text.specs.Cut.Part.{part-is}
 use Rattle.text.specs.Every.Laws.{test_held}

@@ -6,8 +6,8 @@ use Rattle.room.specs.Label.{bearer}
 use Rattle.room.specs.Table.{sound}
 use Rattle.room.specs.declared.label.Bearer.{Bearer}
 use Rattle.room.specs.declared.label.Bearer.TheVariants.{Only, NotOne}
-use Rattle.log.specs.declared.part.LogPart.{LogPart}
-use Rattle.log.specs.declared.part.LogPart.TheVariants.{Table, Line, Nothing}
+use Rattle.line_log.specs.declared.part.LogPart.{LogPart}
+use Rattle.line_log.specs.declared.part.LogPart.TheVariants.{Table, Line, Nothing}
 
 -- the first two quotes of the line
 unfoldable pub first_quote : List ℕ → ℕ

@@ -1,8 +1,10 @@
 // The label that the log shows of a line.
+#![tactic(auto)]
+
 pub mod part;
 
 ghost use Rattle.std.specs.Prelude.{◌≡◌};
-ghost use Rattle.log.specs.Log.{log_label, placed};
+ghost use Rattle.line_log.specs.Log.{log_label, placed};
 
 use crate::part::{LogPart, log_part};
 

@@ -10,11 +10,11 @@ use Rattle.room.specs.Label.{bearer}
 use Rattle.room.specs.Table.{sound}
 use Rattle.room.specs.declared.label.Bearer.{Bearer}
 use Rattle.room.specs.declared.label.Bearer.TheVariants.{Only, NotOne}
-use Rattle.log.specs.Log.{part_of, part_shown, log_label}
-use Rattle.log.specs.LogPart.{first_quote, second_quote, shown, log_part}
-use Rattle.log.specs.LogPart.Showing.{label-room}
-use Rattle.log.specs.declared.part.LogPart.{LogPart}
-use Rattle.log.specs.declared.part.LogPart.TheVariants.{Table, Line, Nothing}
+use Rattle.line_log.specs.Log.{part_of, part_shown, log_label}
+use Rattle.line_log.specs.LogPart.{first_quote, second_quote, shown, log_part}
+use Rattle.line_log.specs.LogPart.Showing.{label-room}
+use Rattle.line_log.specs.declared.part.LogPart.{LogPart}
+use Rattle.line_log.specs.declared.part.LogPart.TheVariants.{Table, Line, Nothing}
 
 -- ---- within
 

@@ -11,10 +11,10 @@ use Rattle.room.specs.Label.Length.{label-part}
 use Rattle.room.specs.Table.{sound}
 use Rattle.room.specs.declared.label.Bearer.TheVariants.{Only}
 use Rattle.room.specs.declared.table.Module.{Module}
-use Rattle.log.specs.Log.{log_label, part_of, part_shown}
-use Rattle.log.specs.LogPart.{log_part}
-use Rattle.log.specs.declared.part.LogPart.{LogPart}
-use Rattle.log.specs.declared.part.LogPart.TheVariants.{Table, Line, Nothing}
+use Rattle.line_log.specs.Log.{log_label, part_of, part_shown}
+use Rattle.line_log.specs.LogPart.{log_part}
+use Rattle.line_log.specs.declared.part.LogPart.{LogPart}
+use Rattle.line_log.specs.declared.part.LogPart.TheVariants.{Table, Line, Nothing}
 
 pub shown-text : (t text : List ℕ) (m : Module) → sound t ≡ true → bearer t text ≡ Only m → part t (m.place + 1) (m.place + 1 + length text) ≡ text
 shown-text t text m s e =

@@ -3,14 +3,14 @@ ghost use Rattle.std.specs.Prelude.{true, ◌≡◌, ◌≤◌, length};
 ghost use Rattle.text.specs.Cut.{part};
 ghost use Rattle.room.specs.Label.{bearer};
 ghost use Rattle.room.specs.Table.{sound};
-ghost use Rattle.log.specs.LogPart.{log_part, shown};
+ghost use Rattle.line_log.specs.LogPart.{log_part, shown};
 
 use room::label::{Bearer, find_bearer};
 use room::table::is_sound;
 use text::cut::find;
 
 // A part of the table or of the line, from a start to an end, or the empty part at the line's start.
-#[derive(Drop)]
+#[derive(Clone, Copy)]
 pub enum LogPart {
     Table(usize, usize),
     Line(usize, usize),

@@ -1,8 +1,8 @@
 -- `log_part`: the first two quotes, and the part that shows the text between them.
 use borrow.Author.Rules.{rules}
-use Rattle.log.specs.LogPart.Showing.{finding}
-use Rattle.log.proofs.part.log_part.Statement.{statement}
-use Rattle.log.proofs.part.log_part.Tie as tie
+use Rattle.line_log.specs.LogPart.Showing.{finding}
+use Rattle.line_log.proofs.part.log_part.Statement.{statement}
+use Rattle.line_log.proofs.part.log_part.Tie as tie
 
 pub log_part_spec : {M : Type 1} → statement M
 log_part_spec =

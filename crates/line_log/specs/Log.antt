@@ -4,9 +4,9 @@ pub mod Lending
 use Rattle.std.specs.Prelude.{List, ℕ, ◌+◌}
 use Rattle.std.specs.Borrow.{Bor}
 use Rattle.text.specs.Cut.{part}
-use Rattle.log.specs.declared.part.LogPart.{LogPart}
-use Rattle.log.specs.declared.part.LogPart.TheVariants.{Table, Line, Nothing}
-use Rattle.log.specs.LogPart.{log_part}
+use Rattle.line_log.specs.declared.part.LogPart.{LogPart}
+use Rattle.line_log.specs.declared.part.LogPart.TheVariants.{Table, Line, Nothing}
+use Rattle.line_log.specs.LogPart.{log_part}
 
 -- a part of lent bytes: the block that it lies in, its place there, and its bytes
 pub record Part : Type 0 where
