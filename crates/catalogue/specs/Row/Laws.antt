@@ -53,7 +53,7 @@ abbrev pub bits : ℤ → ℤ
 bits z = to_z w64 (of_z w64 z)
 
 pub value_bits : (z : ℤ) → mag z < 2 ^ 62 → bits z ≡ z
-value_bits z h = to_z-of_z (record { sfits = omega (arith, h) })
+value_bits z h = to_z-of_z {w = w64} (record { sfits = omega (arith, h) })
 
 module _ (r : Row) (v : ℤ) (fit : RowFits r) (sfit : SFits w64 v) where
   pub too_low : lt_z (bits v) (bits r.low) ≡ true → false ≡ permitted r v

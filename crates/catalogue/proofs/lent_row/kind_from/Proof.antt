@@ -1,4 +1,5 @@
 -- `kind_from`: one arm for each kind.
+use borrow.Author.Rules.{rules}
 use Rattle.catalogue.specs.Catalogue.Numbers.{kind_from, kind-rest}
 use Rattle.catalogue.proofs.lent_row.kind_from.Statement.{statement}
 use Rattle.catalogue.proofs.lent_row.kind_from.Tie as tie
@@ -8,7 +9,7 @@ unfolding kind_from
 kind_from_spec =
     tie.close
     (tie.spec
-    (λ c. rw c.match.keys1)
-    (λ c. rw c.match.keys2)
-    (λ c. rw c.match.keys3)
-    (λ c. kind-rest _ c.match.rest.0.0.1 c.match.rest.0.1 c.match.rest.1))
+    (λ c. rw c.in-0.is)
+    (λ c. rw c.in-1.is)
+    (λ c. rw c.in-2.is)
+    (λ c. kind-rest _ (search rules) (search rules) (search rules)))

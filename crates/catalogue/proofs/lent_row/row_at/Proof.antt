@@ -6,16 +6,15 @@ use Rattle.catalogue.proofs.lent_row.row_at.Tie as tie
 
 returns : tie.Need-returns
 returns c =
-    let start = c.before.before.before.before.before.before.before.before.before in
-    let n = start.args.n in
-    let inside = start.requires.1 in
+    let n = c.args.n in
+    let inside = c.requires.1 in
     row_of-fields _ _ _ _ _ _ _
-    (taken_indices n inside _ _ _ c.before.indices_from.ensures c.before.before.before.before.before.before.before.before.natural-at.ensures c.before.before.before.before.before.before.before.number_at.ensures)
-    (taken_kind n inside _ _ c.kind-from.ensures c.before.before.before.before.before.before.natural-at2.ensures)
-    (taken_low n inside _ c.before.before.before.before.before.number-at2.ensures)
-    (taken_high n inside _ c.before.before.before.before.number-at3.ensures)
-    (taken_step n inside _ c.before.before.before.natural-at3.ensures)
-    (taken_settable n inside _ c.before.before.natural-at4.ensures)
+    (taken_indices n inside _ _ _ c.indices_from.ensures c.natural_at-first.ensures c.number_at-second.ensures)
+    (taken_kind n inside _ _ c.kind_from.ensures c.natural_at-code.ensures)
+    (taken_low n inside _ c.number_at-low.ensures)
+    (taken_high n inside _ c.number_at-high.ensures)
+    (taken_step n inside _ c.natural_at-step.ensures)
+    (taken_settable n inside _ c.natural_at-settable.ensures)
 
 pub row_at_spec : {M : Type 1} → statement M
 row_at_spec =

@@ -23,4 +23,4 @@ group_number_spec =
     (λ c. search (grouped, rules))  -- returns
     (λ c. search (grouped, rules))  -- returns-2
     (λ c. search (grouped, rules))  -- returns-3
-    (λ c. no_number _ _ _ _ c.match.rest.0.0.1 c.match.rest.0.1 c.match.rest.1))  -- returns-4
+    (λ c. no_number _ _ _ _ (search rules) (search rules) (search rules)))  -- returns-4
