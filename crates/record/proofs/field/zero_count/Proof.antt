@@ -6,18 +6,18 @@ use Rattle.record.specs.Field.Tally.{Tallied, tallying}
 use Rattle.record.proofs.field.zero_count.Statement.{statement}
 use Rattle.record.proofs.field.zero_count.Tie as tie
 
-abbrev invariant-loop : tie.invariant-loop
-invariant-loop field count₀ i₀ count i = Tallied field count i
+abbrev invariant-loop-i : tie.invariant-loop-i
+invariant-loop-i field count₀ i₀ count i = Tallied field count i
 
-abbrev decreases-loop : tie.decreases-loop
-decreases-loop field count₀ i₀ count i = length field - i
+abbrev decreases-loop-i : tie.decreases-loop-i
+decreases-loop-i field count₀ i₀ count i = length field - i
 
 pub zero_count_spec : {M : Type 1} → statement M
 zero_count_spec =
     tie.close
     (tie.spec
-    invariant-loop
-    decreases-loop
+    invariant-loop-i
+    decreases-loop-i
     (λ c. search (tallying, rules))
     (λ c. search (tallying, rules))
     (λ c. search (tallying, rules))

@@ -6,18 +6,18 @@ use Rattle.room.specs.Table.Checked.{Checked, checking}
 use Rattle.room.proofs.table.is_sound.Statement.{statement}
 use Rattle.room.proofs.table.is_sound.Tie as tie
 
-abbrev invariant-loop : tie.invariant-loop
-invariant-loop table place₀ left₀ place left = Checked table place left
+abbrev invariant-loop-place : tie.invariant-loop-place
+invariant-loop-place table place₀ left₀ place left = Checked table place left
 
-abbrev decreases-loop : tie.decreases-loop
-decreases-loop table place₀ left₀ place left = length table - place
+abbrev decreases-loop-place : tie.decreases-loop-place
+decreases-loop-place table place₀ left₀ place left = length table - place
 
 pub is_sound_spec : {M : Type 1} → statement M
 is_sound_spec =
     tie.close
     (tie.spec
-    invariant-loop
-    decreases-loop
+    invariant-loop-place
+    decreases-loop-place
     (λ c. search (checking, rules))  -- loop-holds
     (λ c. search (checking, rules))  -- returns
     (λ c. search (checking, rules))  -- shared-slice-read-kind

@@ -7,18 +7,18 @@ use Rattle.room.specs.Table.Walk.{walking}
 use Rattle.room.proofs.table.module_at.Statement.{statement}
 use Rattle.room.proofs.table.module_at.Tie as tie
 
-abbrev invariant-loop : tie.invariant-loop
-invariant-loop table number at₀ place₀ first₀ at place first = Reached table number at place first
+abbrev invariant-loop-place : tie.invariant-loop-place
+invariant-loop-place table number at₀ place₀ first₀ at place first = Reached table number at place first
 
-abbrev decreases-loop : tie.decreases-loop
-decreases-loop table number at₀ place₀ first₀ at place first = length table - place
+abbrev decreases-loop-place : tie.decreases-loop-place
+decreases-loop-place table number at₀ place₀ first₀ at place first = length table - place
 
 pub module_at_spec : {M : Type 1} → statement M
 module_at_spec =
     tie.close
     (tie.spec
-    invariant-loop
-    decreases-loop
+    invariant-loop-place
+    decreases-loop-place
     (λ c. search (reaching, walking, rules))  -- loop-holds
     (λ c κs. search (reaching, walking, rules))  -- layout-at-requires
     (λ c. search (reaching, walking, rules))  -- returns
