@@ -8,18 +8,18 @@ use Rattle.values.specs.Values.Fitting.{Fitting, fitting}
 use Rattle.values.proofs.are_sound.Statement.{statement}
 use Rattle.values.proofs.are_sound.Tie as tie
 
-abbrev invariant-loop : tie.invariant-loop
-invariant-loop table rows values number₀ place₀ first₀ number place first = Fitting (room_of table) values number place first
+abbrev invariant-loop-place : tie.invariant-loop-place
+invariant-loop-place table rows values number₀ place₀ first₀ number place first = Fitting (room_of table) values number place first
 
-abbrev decreases-loop : tie.decreases-loop
-decreases-loop table rows values number₀ place₀ first₀ number place first = length table - place
+abbrev decreases-loop-place : tie.decreases-loop-place
+decreases-loop-place table rows values number₀ place₀ first₀ number place first = length table - place
 
 pub are_sound_spec : {M : Type 1} → statement M
 are_sound_spec =
     tie.close
     (tie.spec
-    invariant-loop
-    decreases-loop
+    invariant-loop-place
+    decreases-loop-place
     (λ c. search (fitting, walking, rules))  -- loop-holds
     (λ c κs. search (fitting, walking, rules))  -- layout-at-requires
     (λ c κs. search (fitting, walking, rules))  -- row-count-requires

@@ -57,7 +57,7 @@ row_one t n j m f r e q h = rw (sym e ∙ q) h
 pub row_known : (t : List ℕ) (n : ℕ) (m : Module) (f : ModuleFound) → sound t ≡ true → f ≡ module_at (modules t) n → f ≡ table.At m → known_layout m.layout ≡ true
 row_known t n m f s e q = module_at-known t s n m (sym e ∙ q)
 
-pub ruleset by_Row = (own-none, own-one, own-inside, row_none, row_one, row_known)
+pub ruleset by_row_lem = (own-none, own-one, own-inside, row_none, row_one, row_known)
 
 -- ---- the laws
 

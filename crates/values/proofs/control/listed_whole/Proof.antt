@@ -6,18 +6,18 @@ use Rattle.values.specs.Parameters.Seeking.{Seeking}
 use Rattle.values.proofs.control.listed_whole.Statement.{statement}
 use Rattle.values.proofs.control.listed_whole.Tie as tie
 
-abbrev invariant-loop : tie.invariant-loop
-invariant-loop rows m indices layout count j₀ j = Seeking m indices count j
+abbrev invariant-loop-j : tie.invariant-loop-j
+invariant-loop-j rows m indices layout count j₀ j = Seeking m indices count j
 
-abbrev decreases-loop : tie.decreases-loop
-decreases-loop rows m indices layout count j₀ j = count - j
+abbrev decreases-loop-j : tie.decreases-loop-j
+decreases-loop-j rows m indices layout count j₀ j = count - j
 
 pub listed_whole_spec : {M : Type 1} → statement M
 listed_whole_spec =
     tie.close
     (tie.spec
-    invariant-loop
-    decreases-loop
+    invariant-loop-j
+    decreases-loop-j
     (λ c κs. search (listed_seeking, rules))  -- row-count-requires
     (λ c. search (listed_seeking, rules))  -- loop-holds
     (λ c κs. search (listed_seeking, rules))  -- listed-row-requires

@@ -6,18 +6,18 @@ use Rattle.values.specs.Permit.Mixed.{Mixed, mixing}
 use Rattle.values.proofs.mixer_values.mixer_fits.Statement.{statement}
 use Rattle.values.proofs.mixer_values.mixer_fits.Tie as tie
 
-abbrev invariant-loop : tie.invariant-loop
-invariant-loop inputs outputs values j₀ j = Mixed inputs outputs values j
+abbrev invariant-loop-j : tie.invariant-loop-j
+invariant-loop-j inputs outputs values j₀ j = Mixed inputs outputs values j
 
-abbrev decreases-loop : tie.decreases-loop
-decreases-loop inputs outputs values j₀ j = length values - j
+abbrev decreases-loop-j : tie.decreases-loop-j
+decreases-loop-j inputs outputs values j₀ j = length values - j
 
 pub mixer_fits_spec : {M : Type 1} → statement M
 mixer_fits_spec =
     tie.close
     (tie.spec
-    invariant-loop
-    decreases-loop
+    invariant-loop-j
+    decreases-loop-j
     (λ c. search (mixing, rules))  -- loop-holds
     (λ c. search (mixing, rules))  -- mul-mixer-permits
     (λ c. search (mixing, rules))  -- shared-slice-copy-out-mixer-permits

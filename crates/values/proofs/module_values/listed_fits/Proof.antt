@@ -7,18 +7,18 @@ use Rattle.values.specs.Permit.Testing.{Tested, testing}
 use Rattle.values.proofs.module_values.listed_fits.Statement.{statement}
 use Rattle.values.proofs.module_values.listed_fits.Tie as tie
 
-abbrev invariant-loop : tie.invariant-loop
-invariant-loop rows values first j₀ j = Tested first values j
+abbrev invariant-loop-j : tie.invariant-loop-j
+invariant-loop-j rows values first j₀ j = Tested first values j
 
-abbrev decreases-loop : tie.decreases-loop
-decreases-loop rows values first j₀ j = length values - j
+abbrev decreases-loop-j : tie.decreases-loop-j
+decreases-loop-j rows values first j₀ j = length values - j
 
 pub listed_fits_spec : {M : Type 1} → statement M
 listed_fits_spec =
     tie.close
     (tie.spec
-    invariant-loop
-    decreases-loop
+    invariant-loop-j
+    decreases-loop-j
     (λ c κs. search (running, testing, rules))  -- first-row-requires
     (λ c. search (testing, rules))  -- loop-holds
     (λ c. search (running, testing, rules))  -- add-row-permits

@@ -7,18 +7,18 @@ use Rattle.room.specs.Table.Walk.{walking}
 use Rattle.values.proofs.parameter.parameter_at.Statement.{statement}
 use Rattle.values.proofs.parameter.parameter_at.Tie as tie
 
-abbrev invariant-loop : tie.invariant-loop
-invariant-loop table rows k number₀ place₀ first₀ number place first = Passed table k number place first
+abbrev invariant-loop-place : tie.invariant-loop-place
+invariant-loop-place table rows k number₀ place₀ first₀ number place first = Passed table k number place first
 
-abbrev decreases-loop : tie.decreases-loop
-decreases-loop table rows k number₀ place₀ first₀ number place first = length table - place
+abbrev decreases-loop-place : tie.decreases-loop-place
+decreases-loop-place table rows k number₀ place₀ first₀ number place first = length table - place
 
 pub parameter_at_spec : {M : Type 1} → statement M
 parameter_at_spec =
     tie.close
     (tie.spec
-    invariant-loop
-    decreases-loop
+    invariant-loop-place
+    decreases-loop-place
     (λ c. search (passing, walking, rules))  -- loop-holds
     (λ c κs. search (passing, walking, rules))  -- layout-at-requires
     (λ c κs. search (passing, walking, rules))  -- row-count-requires

@@ -7,18 +7,18 @@ use Rattle.room.specs.Table.Walk.{walking}
 use Rattle.values.proofs.parameter.parameter_count.Statement.{statement}
 use Rattle.values.proofs.parameter.parameter_count.Tie as tie
 
-abbrev invariant-loop : tie.invariant-loop
-invariant-loop table records₀ at₀ passed₀ records at passed = Counted table records at passed
+abbrev invariant-loop-at : tie.invariant-loop-at
+invariant-loop-at table records₀ at₀ passed₀ records at passed = Counted table records at passed
 
-abbrev decreases-loop : tie.decreases-loop
-decreases-loop table records₀ at₀ passed₀ records at passed = length table - at
+abbrev decreases-loop-at : tie.decreases-loop-at
+decreases-loop-at table records₀ at₀ passed₀ records at passed = length table - at
 
 pub parameter_count_spec : {M : Type 1} → statement M
 parameter_count_spec =
     tie.close
     (tie.spec
-    invariant-loop
-    decreases-loop
+    invariant-loop-at
+    decreases-loop-at
     (λ c. search (counting, walking, rules))  -- loop-holds
     (λ c κs. search (counting, walking, rules))  -- layout-at-requires
     (λ c. search (counting, walking, rules))  -- add-records

@@ -5,18 +5,18 @@ use Rattle.values.specs.Starts.Filling.{Filling, filling}
 use Rattle.values.proofs.starts.fill_starts.Statement.{statement}
 use Rattle.values.proofs.starts.fill_starts.Tie as tie
 
-abbrev invariant-loop : tie.invariant-loop
-invariant-loop table rows values₀ count k₀ values k = Filling table values₀ count values k
+abbrev invariant-loop-k : tie.invariant-loop-k
+invariant-loop-k table rows values₀ count k₀ values k = Filling table values₀ count values k
 
-abbrev decreases-loop : tie.decreases-loop
-decreases-loop table rows values₀ count k₀ values k = count - k
+abbrev decreases-loop-k : tie.decreases-loop-k
+decreases-loop-k table rows values₀ count k₀ values k = count - k
 
 pub fill_starts_spec : {M : Type 1} → statement M
 fill_starts_spec =
     tie.close
     (tie.spec
-    invariant-loop
-    decreases-loop
+    invariant-loop-k
+    decreases-loop-k
     (λ c κs. search (filling, rules))  -- parameter-count-requires
     (λ c. search (filling, rules))  -- loop-holds
     (λ c κs. search (filling, rules))  -- start-at-requires
