@@ -6,18 +6,18 @@ use Rattle.wish.specs.Target.Selecting.{Selecting, selecting}
 use Rattle.wish.proofs.selection_right.Statement.{statement}
 use Rattle.wish.proofs.selection_right.Tie as tie
 
-abbrev invariant-loop : tie.invariant-loop
-invariant-loop table selection number₀ place₀ number place = Selecting table selection number place
+abbrev invariant-loop-place : tie.invariant-loop-place
+invariant-loop-place table selection number₀ place₀ number place = Selecting table selection number place
 
-abbrev decreases-loop : tie.decreases-loop
-decreases-loop table selection number₀ place₀ number place = length table - place
+abbrev decreases-loop-place : tie.decreases-loop-place
+decreases-loop-place table selection number₀ place₀ number place = length table - place
 
 pub selection_right_spec : {M : Type 1} → statement M
 selection_right_spec =
     tie.close
     (tie.spec
-    invariant-loop
-    decreases-loop
+    invariant-loop-place
+    decreases-loop-place
     (λ c. search (selecting, rules))  -- loop-holds
     (λ c. search (selecting, rules))  -- returns
     (λ c. search (selecting, rules))  -- shared-slice-read-if2

@@ -8,18 +8,18 @@ use Rattle.wish.specs.Target.Wanting.{Wanting, wanting, wanting_on}
 use Rattle.wish.proofs.wanted_right.Statement.{statement}
 use Rattle.wish.proofs.wanted_right.Tie as tie
 
-abbrev invariant-loop : tie.invariant-loop
-invariant-loop table rows selection wanted number₀ place₀ first₀ number place first = Wanting (room_of table) selection wanted number place first
+abbrev invariant-loop-place : tie.invariant-loop-place
+invariant-loop-place table rows selection wanted number₀ place₀ first₀ number place first = Wanting (room_of table) selection wanted number place first
 
-abbrev decreases-loop : tie.decreases-loop
-decreases-loop table rows selection wanted number₀ place₀ first₀ number place first = length table - place
+abbrev decreases-loop-place : tie.decreases-loop-place
+decreases-loop-place table rows selection wanted number₀ place₀ first₀ number place first = length table - place
 
 pub wanted_right_spec : {M : Type 1} → statement M
 wanted_right_spec =
     tie.close
     (tie.spec
-    invariant-loop
-    decreases-loop
+    invariant-loop-place
+    decreases-loop-place
     (λ c. search (wanting, walking, rules))  -- loop-holds
     (λ c κs. search (wanting, walking, rules))  -- layout-at-requires
     (λ c κs. search (wanting, walking, rules))  -- row-count-requires

@@ -7,19 +7,19 @@ use Rattle.restore_list.specs.Writing.Whole.{Puts, putting}
 use Rattle.restore_list.proofs.list.write.Statement.{statement}
 use Rattle.restore_list.proofs.list.write.Tie as tie
 
-abbrev invariant-loop : tie.invariant-loop
-invariant-loop table rows present selection wanted list₀ number₀ place₀ first₀ at₀ list number place first at =
+abbrev invariant-loop-place : tie.invariant-loop-place
+invariant-loop-place table rows present selection wanted list₀ number₀ place₀ first₀ at₀ list number place first at =
     Puts table present selection wanted list₀ list number place first at
 
-abbrev decreases-loop : tie.decreases-loop
-decreases-loop table rows present selection wanted list₀ number₀ place₀ first₀ at₀ list number place first at = length table - place
+abbrev decreases-loop-place : tie.decreases-loop-place
+decreases-loop-place table rows present selection wanted list₀ number₀ place₀ first₀ at₀ list number place first at = length table - place
 
 pub write_spec : {M : Type 1} → statement M
 write_spec =
     tie.close
     (tie.spec
-    invariant-loop
-    decreases-loop
+    invariant-loop-place
+    decreases-loop-place
     (λ c. search (putting, walking, rules))  -- loop-holds
     (λ c κs. search (putting, walking, rules))  -- layout-at-requires
     (λ c κs. search (putting, walking, rules))  -- write-module-requires

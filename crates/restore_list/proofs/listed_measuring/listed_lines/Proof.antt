@@ -6,18 +6,18 @@ use Rattle.restore_list.specs.Measuring.Rows.{Rows, listed_measuring}
 use Rattle.restore_list.proofs.listed_measuring.listed_lines.Statement.{statement}
 use Rattle.restore_list.proofs.listed_measuring.listed_lines.Tie as tie
 
-abbrev invariant-loop : tie.invariant-loop
-invariant-loop table rows m size present wanted layout bytes₀ lines₀ j₀ bytes lines j = Rows table m present wanted bytes lines j
+abbrev invariant-loop-j : tie.invariant-loop-j
+invariant-loop-j table rows m size present wanted layout bytes₀ lines₀ j₀ bytes lines j = Rows table m present wanted bytes lines j
 
-abbrev decreases-loop : tie.decreases-loop
-decreases-loop table rows m size present wanted layout bytes₀ lines₀ j₀ bytes lines j = length present - j
+abbrev decreases-loop-j : tie.decreases-loop-j
+decreases-loop-j table rows m size present wanted layout bytes₀ lines₀ j₀ bytes lines j = length present - j
 
 pub listed_lines_spec : {M : Type 1} → statement M
 listed_lines_spec =
     tie.close
     (tie.spec
-    invariant-loop
-    decreases-loop
+    invariant-loop-j
+    decreases-loop-j
     (λ c. search (listed_measuring, rules))  -- loop-holds
     (λ c. search (listed_measuring, rules))  -- mul-from
     (λ c. search (listed_measuring, rules))  -- shared-slice-copy-out-from

@@ -6,18 +6,18 @@ use Rattle.restore_list.specs.Writing.Rows.{RowsPut, listed_putting}
 use Rattle.restore_list.proofs.listed_writing.write_listed.Statement.{statement}
 use Rattle.restore_list.proofs.listed_writing.write_listed.Tie as tie
 
-abbrev invariant-loop : tie.invariant-loop
-invariant-loop table rows m size present wanted list₀ start layout at₀ j₀ list at j = RowsPut table m present wanted list₀ start list at j
+abbrev invariant-loop-j : tie.invariant-loop-j
+invariant-loop-j table rows m size present wanted list₀ start layout at₀ j₀ list at j = RowsPut table m present wanted list₀ start list at j
 
-abbrev decreases-loop : tie.decreases-loop
-decreases-loop table rows m size present wanted list₀ start layout at₀ j₀ list at j = length present - j
+abbrev decreases-loop-j : tie.decreases-loop-j
+decreases-loop-j table rows m size present wanted list₀ start layout at₀ j₀ list at j = length present - j
 
 pub write_listed_spec : {M : Type 1} → statement M
 write_listed_spec =
     tie.close
     (tie.spec
-    invariant-loop
-    decreases-loop
+    invariant-loop-j
+    decreases-loop-j
     (λ c. search (listed_putting, rules))  -- loop-holds
     (λ c. search (listed_putting, rules))  -- mul-from
     (λ c. search (listed_putting, rules))  -- shared-slice-copy-out-from

@@ -7,19 +7,19 @@ use Rattle.restore_list.specs.Measuring.Whole.{Sums, summing}
 use Rattle.restore_list.proofs.measure.measure.Statement.{statement}
 use Rattle.restore_list.proofs.measure.measure.Tie as tie
 
-abbrev invariant-loop : tie.invariant-loop
-invariant-loop table rows present selection wanted number₀ place₀ first₀ bytes₀ lines₀ number place first bytes lines =
+abbrev invariant-loop-place : tie.invariant-loop-place
+invariant-loop-place table rows present selection wanted number₀ place₀ first₀ bytes₀ lines₀ number place first bytes lines =
     Sums table present selection wanted number place first bytes lines
 
-abbrev decreases-loop : tie.decreases-loop
-decreases-loop table rows present selection wanted number₀ place₀ first₀ bytes₀ lines₀ number place first bytes lines = length table - place
+abbrev decreases-loop-place : tie.decreases-loop-place
+decreases-loop-place table rows present selection wanted number₀ place₀ first₀ bytes₀ lines₀ number place first bytes lines = length table - place
 
 pub measure_spec : {M : Type 1} → statement M
 measure_spec =
     tie.close
     (tie.spec
-    invariant-loop
-    decreases-loop
+    invariant-loop-place
+    decreases-loop-place
     (λ c. search (summing, walking, rules))  -- loop-holds
     (λ c κs. search (summing, walking, rules))  -- layout-at-requires
     (λ c κs. search (summing, walking, rules))  -- measure-module-requires

@@ -7,18 +7,18 @@ use Rattle.serial_port.specs.Stream.Turns.{Serving, serving, serving_at, serving
 use Rattle.serial_port.proofs.stream.serve_all.Statement.{statement}
 use Rattle.serial_port.proofs.stream.serve_all.Tie as tie
 
-abbrev invariant-loop : tie.invariant-loop
-invariant-loop table rows values₀ given out₀ port₀ at₀ end₀ values out port at end = Serving (room_of table) values₀ port₀ given out₀ values port at end out
+abbrev invariant-loop-at : tie.invariant-loop-at
+invariant-loop-at table rows values₀ given out₀ port₀ at₀ end₀ values out port at end = Serving (room_of table) values₀ port₀ given out₀ values port at end out
 
-abbrev decreases-loop : tie.decreases-loop
-decreases-loop table rows values₀ given out₀ port₀ at₀ end₀ values out port at end = length given - at
+abbrev decreases-loop-at : tie.decreases-loop-at
+decreases-loop-at table rows values₀ given out₀ port₀ at₀ end₀ values out port at end = length given - at
 
 pub serve_all_spec : {M : Type 1} → statement M
 serve_all_spec =
     tie.close
     (tie.spec
-    invariant-loop
-    decreases-loop
+    invariant-loop-at
+    decreases-loop-at
     (λ c. search (serving, rules))  -- loop-holds
     (λ c. search (serving, rules))  -- sub-if1
     (λ c. search (serving, rules))  -- same-length
