@@ -31,22 +31,10 @@ serve_all_spec =
     (λ c. search (serving, rules))  -- part-serve-start-2
     (λ c. search (serving, rules))  -- part-serve-end-2
     (λ c κs. search (serving, rules))  -- serve-requires
-    (λ c.  -- add-at
-    let s = c.before.before.before.before.before in
-    let e = s.before.before.before.before in
-    serving_at _ _ _ _ _ _ _ _ _ _ e.before.before.loop.invariant _ _ _ e.if1.false s.serve.ensures)
-    (λ c.  -- add-end
-    let s = c.before.before.before.before.before.before in
-    let e = s.before.before.before.before in
-    serving_end _ _ _ _ _ _ _ _ _ _ e.before.before.loop.invariant _ _ _ e.if1.false s.serve.ensures)
-    (λ c.  -- loop-less
-    let s = c.before.before.before.before.before.before in
-    let e = s.before.before.before.before in
-    serving_less _ _ _ _ _ _ _ _ _ _ e.before.before.loop.invariant _ _ _ e.if1.false s.serve.ensures e.before.loop-test.true)
-    (λ c.  -- loop-again
-    let s = c.before.before.before.before.before.before in
-    let e = s.before.before.before.before in
-    serving_next _ _ _ _ _ _ _ _ _ _ e.before.before.loop.invariant _ _ _ e.if1.false s.serve.ensures e.before.loop-test.true)
+    (λ c. serving_at _ _ _ _ _ _ _ _ _ _ c.loop-at.invariant _ _ _ c.if-out-end-lt-REPLY.false c.serve-called.ensures)  -- add-at
+    (λ c. serving_end _ _ _ _ _ _ _ _ _ _ c.loop-at.invariant _ _ _ c.if-out-end-lt-REPLY.false c.serve-called.ensures)  -- add-end
+    (λ c. serving_less _ _ _ _ _ _ _ _ _ _ c.loop-at.invariant _ _ _ c.if-out-end-lt-REPLY.false c.serve-called.ensures c.loop-at-test.true)  -- loop-less
+    (λ c. serving_next _ _ _ _ _ _ _ _ _ _ c.loop-at.invariant _ _ _ c.if-out-end-lt-REPLY.false c.serve-called.ensures c.loop-at-test.true)  -- loop-again
     (λ c. search (serving, rules))  -- same-length-3
     (λ c. search (serving, rules))  -- same-length-4
     (λ c. search (serving, rules)))  -- returns-2
