@@ -64,6 +64,10 @@ module _ (want b : Bool) (row : List Connection) (i : ℕ) (p : b ≡ is_place (
       let l : i ≤ 31 = leb-true i 31 (both_right (eqb (length row) 32) (leb i 31) q) in
       omega arith
 
+  pub place_small : b ≡ true → i ≤ 31
+  unfolding is_place connection_count
+  place_small h = leb-true i 31 (both_right (eqb (length row) 32) (leb i 31) (sym p ∙ h))
+
   pub no_place : b ≡ false → Switches want row i 10 row
   unfolding switch_number
   no_place h =

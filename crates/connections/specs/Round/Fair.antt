@@ -58,6 +58,7 @@ within c last (w ∷ ws) p q a h = go (next last w) refl (next-nearer last c w p
         → ((s : ℕ) → s < 32 → (c + 31 - s) % 32 < length ws → Serves c s ws) → Serves c last (w ∷ ws)
     go (One s) e itself more = now last w ws e
     go (One s) e (other r l k) more = later last w ws (rw e (more s l (omega arith)))
+    go Nobody e x7 more = elim x7 [ ]
 
 pub served-within : (c last : ℕ) (turns : List (ℕ → Bool)) → last < 32 → c < 32 → AllWait c turns → 32 ≤ length turns → Serves c last turns
 served-within c last turns p q a h = within c last turns p q a (omega arith)

@@ -39,6 +39,7 @@ module _ (r : Room) where
       go : (ws : List (ℕ → Bool)) → ws ≡ [] → round.Serves c last ws → Serves c []
       go (w ∷ ws) e (round.now l v t q) = absurd (let z : ◌≡◌ {A = ℕ} 0 1 = cc in omega arith)
       go (w ∷ ws) e (round.later l v t k) = absurd (let z : ◌≡◌ {A = ℕ} 0 1 = cc in omega arith)
+      go [] e x4 = elim x4 [ ]
   served-so c last (u ∷ us) h s =
       go s (serves_next h.0 h.1 ∙ ap (λ (n : ℕ). next n (waits u)) h.2) (λ k. served-so c (last_after last u.told.served) us h.3 k)
     where

@@ -6,18 +6,18 @@ use Rattle.connections.proofs.parts.counts_right.Statement.{statement}
 use Rattle.connections.specs.Parts.Adding.{Taken, taking}
 use Rattle.connections.proofs.parts.counts_right.Tie as tie
 
-abbrev invariant-loop : tie.invariant-loop
-invariant-loop counts bytes left₀ i₀ left i = Taken counts bytes i left
+abbrev invariant-loop-i : tie.invariant-loop-i
+invariant-loop-i counts bytes left₀ i₀ left i = Taken counts bytes i left
 
-abbrev decreases-loop : tie.decreases-loop
-decreases-loop counts bytes left₀ i₀ left i = length counts - i
+abbrev decreases-loop-i : tie.decreases-loop-i
+decreases-loop-i counts bytes left₀ i₀ left i = length counts - i
 
 pub counts_right_spec : {M : Type 1} → statement M
 counts_right_spec =
     tie.close
     (tie.spec
-    invariant-loop
-    decreases-loop
+    invariant-loop-i
+    decreases-loop-i
     (λ c. search (taking, rules))  -- returns
     (λ c. search (taking, rules))  -- loop-holds
     (λ c. search (taking, rules))  -- mul-count

@@ -5,18 +5,18 @@ use Rattle.connections.proofs.parts.part_start.Statement.{statement}
 use Rattle.connections.specs.Parts.Adding.{Added, adding}
 use Rattle.connections.proofs.parts.part_start.Tie as tie
 
-abbrev invariant-loop : tie.invariant-loop
-invariant-loop counts number at₀ passed₀ at passed = Added counts number passed at
+abbrev invariant-loop-passed : tie.invariant-loop-passed
+invariant-loop-passed counts number at₀ passed₀ at passed = Added counts number passed at
 
-abbrev decreases-loop : tie.decreases-loop
-decreases-loop counts number at₀ passed₀ at passed = number - passed
+abbrev decreases-loop-passed : tie.decreases-loop-passed
+decreases-loop-passed counts number at₀ passed₀ at passed = number - passed
 
 pub part_start_spec : {M : Type 1} → statement M
 part_start_spec =
     tie.close
     (tie.spec
-    invariant-loop
-    decreases-loop
+    invariant-loop-passed
+    decreases-loop-passed
     (λ c. search (adding, rules))  -- loop-holds
     (λ c. search (adding, rules))  -- mul-at
     (λ c. search (adding, rules))  -- shared-slice-read-at

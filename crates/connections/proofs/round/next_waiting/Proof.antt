@@ -6,18 +6,18 @@ use Rattle.connections.proofs.round.next_waiting.Statement.{statement}
 use Rattle.connections.specs.Round.Seeking.{Sought, seeking}
 use Rattle.connections.proofs.round.next_waiting.Tie as tie
 
-abbrev invariant-loop : tie.invariant-loop
-invariant-loop flags counts last passed₀ passed = Sought last (waits_by flags counts) passed
+abbrev invariant-loop-passed : tie.invariant-loop-passed
+invariant-loop-passed flags counts last passed₀ passed = Sought last (waits_by flags counts) passed
 
-abbrev decreases-loop : tie.decreases-loop
-decreases-loop flags counts last passed₀ passed = 32 - passed
+abbrev decreases-loop-passed : tie.decreases-loop-passed
+decreases-loop-passed flags counts last passed₀ passed = 32 - passed
 
 pub next_waiting_spec : {M : Type 1} → statement M
 next_waiting_spec =
     tie.close
     (tie.spec
-    invariant-loop
-    decreases-loop
+    invariant-loop-passed
+    decreases-loop-passed
     (λ c. search (seeking, rules))  -- loop-holds
     (λ c. search (seeking, rules))  -- add-number
     (λ c. search (seeking, rules))  -- add-number-2
