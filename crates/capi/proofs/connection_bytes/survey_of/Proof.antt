@@ -5,18 +5,18 @@ use Rattle.capi.specs.Connections.Survey.{Looked, looking}
 use Rattle.capi.proofs.connection_bytes.survey_of.Statement.{statement}
 use Rattle.capi.proofs.connection_bytes.survey_of.Tie as tie
 
-abbrev invariant-loop : tie.invariant-loop
-invariant-loop row few₀ flags₀ i₀ few flags i = Looked row i few flags
+abbrev invariant-loop-i : tie.invariant-loop-i
+invariant-loop-i row few₀ flags₀ i₀ few flags i = Looked row i few flags
 
-abbrev decreases-loop : tie.decreases-loop
-decreases-loop row few₀ flags₀ i₀ few flags i = 32 - i
+abbrev decreases-loop-i : tie.decreases-loop-i
+decreases-loop-i row few₀ flags₀ i₀ few flags i = 32 - i
 
 pub survey_of_spec : {M : Type 1} → statement M
 survey_of_spec =
     tie.close
     (tie.spec
-    invariant-loop
-    decreases-loop
+    invariant-loop-i
+    decreases-loop-i
     (λ c. search (looking, rules))  -- loop-holds
     (λ c. search (looking, rules))  -- mul-start
     (λ c. search (looking, rules))  -- shared-slice-read-t9
