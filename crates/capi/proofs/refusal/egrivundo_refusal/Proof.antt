@@ -8,29 +8,17 @@ pub egrivundo_refusal_spec : {M : Type 1} → statement M
 egrivundo_refusal_spec =
     tie.close
     (tie.spec
-    (λ c. search rules)  -- slice-aggregate-put-words
     (λ c κs. search rules)  -- put-words-requires
-    (λ c. search rules)  -- slice-aggregate-put-words-2
     (λ c κs. search rules)  -- put-words-requires-2
-    (λ c. search rules)  -- slice-aggregate-put-words-3
     (λ c κs. search rules)  -- put-words-requires-3
-    (λ c. search rules)  -- slice-aggregate-put-words-4
     (λ c κs. search rules)  -- put-words-requires-4
-    (λ c. search rules)  -- slice-aggregate-put-words-5
     (λ c κs. search rules)  -- put-words-requires-5
-    (λ c. search rules)  -- slice-aggregate-put-words-6
     (λ c κs. search rules)  -- put-words-requires-6
-    (λ c. search rules)  -- slice-aggregate-put-words-7
     (λ c κs. search rules)  -- put-words-requires-7
-    (λ c. search rules)  -- slice-aggregate-put-words-8
     (λ c κs. search rules)  -- put-words-requires-8
-    (λ c. search rules)  -- slice-aggregate-put-words-9
     (λ c κs. search rules)  -- put-words-requires-9
-    (λ c. search rules)  -- slice-aggregate-put-words-10
     (λ c κs. search rules)  -- put-words-requires-10
-    (λ c. search rules)  -- slice-aggregate-put-words-11
     (λ c κs. search rules)  -- put-words-requires-11
-    (λ c. search rules)  -- slice-aggregate-put-words-12
     (λ c κs. search rules)  -- put-words-requires-12
     (λ c. search (telling, rules))  -- returns
     (λ c. search (telling, rules))  -- returns-2
