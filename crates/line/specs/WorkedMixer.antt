@@ -20,7 +20,7 @@ use Rattle.room.specs.Label.{label, same, bearers_in, exactly_one, bearer}
 use Rattle.room.specs.Table.{record_limit, modules_from, modules}
 use Rattle.values.specs.Control.{crosspoint, is_word, named, whole}
 use Rattle.values.specs.Parameters.{numbered, parameters_of, place, with_indices}
-use Rattle.values.specs.Room.{room_of, row_in}
+use Rattle.values.specs.Room.{row_in}
 use Rattle.values.specs.Values.{equal}
 use Rattle.syntax.specs.Cause.{cause_number}
 use Rattle.syntax.specs.IndexGroup.{pair_of, closed_pair, inside_pair, read_pair, or_pair, read_group}

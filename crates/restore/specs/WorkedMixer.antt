@@ -1,7 +1,5 @@
 -- The worked restore lists of the Standard Mixer: a word in which one output differs is put back by that output, one in which more differ by the word.
-use Rattle.std.specs.Prelude.{◌≡◌, refl, Bool, true, ◌&&◌, List, [], ◌∷◌, ◌++◌, ℕ, ◌-◌, eqb, ℤ, pos, length, replicate, set}
-use Prim.Native.String.{String}
-use Rattle.text.specs.Byte.{bytes}
+use Rattle.std.specs.Prelude.{◌≡◌, refl, Bool, true, List, [], ◌∷◌, ◌++◌, ℕ, ℤ, pos, replicate, set}
 use Rattle.text.specs.Cut as cut
 use Rattle.text.specs.Cut.{index_of}
 use Rattle.text.specs.Digits.{digits_within, digits}

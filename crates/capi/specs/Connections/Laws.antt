@@ -1,5 +1,5 @@
 -- Laws of the bytes of a row: zero bytes are the fresh row, and opening and closing the bytes is opening and closing the connection that they say.
-use Rattle.std.specs.Prelude.{◌≡◌, refl, Bool, false, cond, not, List, [], ◌∷◌, ◌++◌, ℕ, zero, suc, ◌+◌, ◌*◌, ◌≤◌, ◌<◌, eqb, length, get_or, take, drop, set, replicate}
+use Rattle.std.specs.Prelude.{◌≡◌, refl, Bool, cond, List, [], ◌∷◌, ◌++◌, ℕ, zero, suc, ◌+◌, ◌*◌, ◌≤◌, ◌<◌, length, take, drop, set, replicate}
 use Rattle.std.proofs.Common.{sym, ◌∙◌, ap, append_assoc, arith, length-drop, take-append-drop, drop_at, drop-drop, length-take-le, take_at}
 use Rattle.std.proofs.lemmas.List.{length-replicate, replicate-append-replicate}
 use Rattle.std.proofs.lemmas.List.Edits.{sets, sets-eq}
@@ -8,7 +8,6 @@ use Rattle.serial_port.specs.Port.Seen.{seen_fresh}
 use Rattle.connections.specs.Connections.{Anew, FreshRow, Left, Switches, made, refused, switch_number, switches}
 use Rattle.connections.specs.Connections.Number.{switch-place}
 use Rattle.connections.specs.Connections.Switching.{fresh-made}
-use Rattle.connections.specs.declared.connection.Connection.{Connection}
 use Rattle.capi.specs.Connections.{SwitchAnswer, anew, connection_of, connections_of, row_of, switch_answer, switch_by, switch_tells}
 use Rattle.capi.specs.Connections.Places.{row_said, row_size, row_stored}
 use Rattle.capi.specs.Port.{port_of}

@@ -1,6 +1,6 @@
 -- Where each connection stands in the bytes of a row, and what storing all bytes of one does to the row.
-use Rattle.std.specs.Prelude.{◌≡◌, refl, Bool, true, false, List, [], ◌∷◌, ◌++◌, ℕ, zero, suc, ◌+◌, ◌*◌, ◌≤◌, ◌<◌, eqb, length, get_or, take, drop, set}
-use Rattle.std.proofs.Common.{sym, ◌∙◌, ap, append_assoc, arith, eq-eqb, eqb-true, ne_eqb, length-drop, length-take, drop_at, drop-drop, length-take-le, take-add, take_at}
+use Rattle.std.specs.Prelude.{◌≡◌, refl, Bool, true, false, List, [], ◌++◌, ℕ, zero, suc, ◌+◌, ◌*◌, ◌≤◌, ◌<◌, eqb, length, get_or, take, drop, set}
+use Rattle.std.proofs.Common.{◌∙◌, ap, append_assoc, arith, eq-eqb, eqb-true, ne_eqb, length-drop, drop_at, drop-drop, length-take-le, take-add, take_at}
 use Rattle.std.proofs.lemmas.Bool.{eqb-false}
 use Rattle.std.proofs.Math.Seq.{length-sets}
 use Rattle.std.proofs.lemmas.List.Edits.{sets, sets-eq}

@@ -1,7 +1,6 @@
 -- Rules for the code of a turn: one for each way to return, and what it asks of the functions that it calls.
-use Rattle.std.specs.Prelude.{◌≡◌, refl, Bool, List, [], ◌∷◌, ℕ, ◌*◌, ◌≤◌, ◌<◌, ℤ, length, get_or}
-use Rattle.std.proofs.Common.{sym, ◌∙◌, ap, arith}
-use Rattle.std.proofs.lemmas.List.Edits.{sets}
+use Rattle.std.specs.Prelude.{◌≡◌, refl, Bool, List, [], ◌∷◌, ℕ, ◌≤◌, ◌<◌, ℤ, length, get_or}
+use Rattle.std.proofs.Common.{sym, ◌∙◌, ap}
 use Rattle.values.specs.Room.{Room}
 use Rattle.syntax.specs.Shape.{line_limit}
 use Rattle.line.specs.Fault.{fault_numbers}

@@ -1,13 +1,11 @@
 -- Laws of the catalogue: the module types, the layouts of modules, and that the rows of a module that is no mixer are its type's run of the catalogue.
-use Rattle.std.specs.Prelude.{◌≡◌, refl, Bool, false, not, ◌&&◌, ◌||◌, List, ◌∷◌, map, ℕ, zero, suc, ◌+◌, ◌*◌, ◌≤◌, ◌<◌, eqb, leb, get_or, take, drop}
-use Rattle.std.proofs.Common.{ap, sym, ◌∙◌, add-one, arith, eq-eqb, eqb-true, leb-true, le-leb, ne_eqb, lit≤, drop-cons, get_or-take, get_or-drop, Fits}
+use Rattle.std.specs.Prelude.{◌≡◌, refl, Bool, false, not, ◌&&◌, ◌||◌, List, ◌∷◌, ℕ, zero, suc, ◌+◌, ◌*◌, ◌≤◌, ◌<◌, eqb, leb, get_or, drop}
+use Rattle.std.proofs.Common.{ap, sym, ◌∙◌, add-one, arith, eq-eqb, eqb-true, leb-true, le-leb, ne_eqb, lit≤, drop-cons}
 use Rattle.std.proofs.Math.Bool.{true}
-use Rattle.std.proofs.Math.Nat.{mod-le}
 use Rattle.std.proofs.lemmas.Bool.{eqb-false, lt-leb}
-use Rattle.std.proofs.Math.ListN.{length, get_or-map}
-use Rattle.std.specs.Int.{w64}
+use Rattle.std.proofs.Math.ListN.{length}
 use Rattle.text.specs.Every.Laws.{both_left, both_right, never}
-use Rattle.catalogue.specs.Catalogue.{Entry, catalogue, entry_at, first_row, fixed, known, known_layout, level, minus, no_entry, no_row, number, row_limit, row_of, rows_before, rows_in, rows_of, switch}
+use Rattle.catalogue.specs.Catalogue.{catalogue, fixed, known, known_layout, level, minus, no_row, number, row_limit, row_of, rows_in, rows_of, switch}
 use Rattle.catalogue.specs.Mixer.{MixerSize, mixer_count, mixer_row, mixer_rows, size_right}
 use Rattle.catalogue.specs.Mixer.Tabulated.{mixer-at, mixer-few, mixer_length_lem}
 use Rattle.catalogue.specs.declared.layout.Layout.{Layout}

@@ -1,5 +1,5 @@
 -- What the rows of every module obey: those of the catalogue by one test over the table, and those of a mixer at every size.
-use Rattle.std.specs.Prelude.{◌≡◌, refl, Bool, true, ℕ, ◌<◌, length}
+use Rattle.std.specs.Prelude.{◌≡◌, Bool, true, ℕ, ◌<◌, length}
 use Rattle.text.specs.Every.{every, pairs}
 use Rattle.text.specs.Every.Laws.{every-at}
 use Rattle.catalogue.specs.Catalogue.{catalogue, known_layout, no_row, row_of, rows_of}

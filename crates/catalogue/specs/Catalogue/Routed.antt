@@ -7,7 +7,7 @@ use Rattle.catalogue.specs.Catalogue.{catalogue, fixed, known_layout, level, min
 use Rattle.catalogue.specs.Catalogue.Each.{entry_test, every-type}
 use Rattle.catalogue.specs.Catalogue.Laws.{Laid, fixed-not_mixer, fixed-rows, laid, mixer-counts, mixer_row-of, mixer-size}
 use Rattle.catalogue.specs.Catalogue.Laws as layout
-use Rattle.catalogue.specs.Mixer.{channel_row, fader, mixer_row, mute, route_row}
+use Rattle.catalogue.specs.Mixer.{channel_row, fader, mute, route_row}
 use Rattle.catalogue.specs.Mixer.Indexed.{Channel, Stands, channel_is, row_stands}
 use Rattle.catalogue.specs.Mixer.Indexed as stands
 use Rattle.catalogue.specs.declared.layout.Layout.{Layout}

@@ -1,7 +1,7 @@
 -- Rules for the code that judges a value by a mixer's row: a row's indices do not matter.
 use Rattle.std.specs.Prelude.{◌≡◌, Bool, ℕ, ◌+◌, ◌-◌, ◌*◌, ◌%◌, ◌≤◌, ◌<◌, ℤ}
 use Rattle.std.proofs.Math.Path.{refl}
-use Rattle.std.proofs.Common.{sym, ◌∙◌, arith, to_z-of_z, SFits}
+use Rattle.std.proofs.Common.{◌∙◌, arith, to_z-of_z, SFits}
 use Rattle.std.specs.Int.{w64}
 use Rattle.catalogue.specs.Catalogue.Fits.{fits, row_fits}
 use Rattle.catalogue.specs.Mixer.{channel_row, fader, mixer_row, mute, route_row}

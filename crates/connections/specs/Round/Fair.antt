@@ -1,6 +1,6 @@
 -- Every connection has its turn: one that waits in each of 32 turns is served in one of them.
 use Rattle.std.specs.Prelude.{◌≡◌, refl, Bool, true, false, List, [], ◌∷◌, ℕ, ◌+◌, ◌-◌, ◌%◌, ◌≤◌, ◌<◌, length}
-use Rattle.std.proofs.Common.{sym, ◌∙◌, ap, arith}
+use Rattle.std.proofs.Common.{sym, ◌∙◌, arith}
 use Rattle.std.proofs.Math.Decide.{dec_le}
 use Rattle.connections.specs.Round.{next, last_after}
 use Rattle.connections.specs.Round.Laws.{ahead, NoneBefore, Chosen, nobody, one, next-chosen}

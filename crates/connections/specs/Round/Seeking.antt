@@ -1,6 +1,6 @@
 -- Rules for seeking the next connection that waits, and for the last served.
-use Rattle.std.specs.Prelude.{◌≡◌, refl, Bool, true, false, cond, ◌&&◌, List, ℕ, zero, suc, ◌+◌, ◌-◌, ◌%◌, ◌≤◌, ◌<◌, ltb, get_or}
-use Rattle.std.proofs.Common.{sym, ◌∙◌, ap, arith, lt-ltb, le-ltb}
+use Rattle.std.specs.Prelude.{◌≡◌, refl, Bool, true, false, cond, List, ℕ, suc, ◌+◌, ◌-◌, ◌%◌, ◌≤◌, ◌<◌, ltb, get_or}
+use Rattle.std.proofs.Common.{sym, ◌∙◌, ap, arith}
 use Rattle.connections.specs.Round.{last_after, waits_by, seek, next}
 use Rattle.connections.specs.declared.round.Served.{Served}
 use Rattle.connections.specs.declared.round.Served.TheVariants.{Nobody, One}

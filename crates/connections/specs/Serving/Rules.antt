@@ -1,5 +1,5 @@
 -- How a connection that was served keeps its promise.
-use Rattle.std.specs.Prelude.{◌≡◌, refl, List, ℕ, ℤ}
+use Rattle.std.specs.Prelude.{refl, List, ℕ, ℤ}
 use Rattle.values.specs.Room.{Room}
 use Rattle.serial_port.specs.Call.{Answers}
 use Rattle.serial_port.specs.declared.port.Called.{Called}

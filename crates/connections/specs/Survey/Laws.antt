@@ -1,8 +1,7 @@
 -- What looking over a row of 32 notes in the end: which connections are open, and whether every port claims at most 64 bytes.
-use Rattle.std.specs.Prelude.{◌≡◌, refl, Bool, true, false, ◌&&◌, List, [], ◌∷◌, ◌++◌, map, ℕ, zero, suc, ◌+◌, ◌≤◌, ◌<◌, length, take, set, replicate}
+use Rattle.std.specs.Prelude.{◌≡◌, refl, Bool, ◌&&◌, List, [], ◌∷◌, ◌++◌, ℕ, zero, suc, ◌+◌, ◌<◌, length, take, set}
 use Rattle.std.proofs.Common.{sym, ◌∙◌, ap, arith, add-one, length-set}
 use Rattle.std.proofs.Math.Bool.{and_assoc, and-true}
-use Rattle.std.proofs.lemmas.List.{length-replicate}
 use Rattle.text.specs.Every.{every}
 use Rattle.text.specs.Every.Laws.{every-nil, every-cons}
 use Rattle.connections.specs.Connections.{flags}

@@ -1,6 +1,6 @@
 -- A turn that tells what `turn` says, and leaves the row so, keeps the promise of a turn, wherever the row is kept.
 use Rattle.std.proofs.Math.Path.{◌≡◌, refl}
-use Rattle.std.proofs.Common.{sym, ◌∙◌, ap, arith}
+use Rattle.std.proofs.Common.{arith}
 use Rattle.std.specs.Prelude.{true, List, length, set}
 use Prim.Native.Nat.{ℕ, zero, suc, ◌≤◌, ◌<◌}
 use Rattle.values.specs.Room.{Room}
@@ -14,7 +14,7 @@ use Rattle.connections.specs.Connections.{flags, port_at}
 use Rattle.connections.specs.Round.{waits_by}
 use Rattle.connections.specs.Round.Laws.{Chosen, nobody, one}
 use Rattle.connections.specs.Turn.{Asked, Left, Turns, answer, busy, bytes_of, chosen, idle, put_back, tell, turn, turn_number, turns}
-use Rattle.connections.specs.Turn.Laws.{Accepted, accepted, chosen-first, served-number}
+use Rattle.connections.specs.Turn.Laws.{accepted, chosen-first, served-number}
 use Rattle.connections.specs.declared.connection.Connection.{Connection}
 use Rattle.connections.specs.declared.round.Served.{Served}
 use Rattle.connections.specs.declared.round.Served.TheVariants.{Nobody, One}

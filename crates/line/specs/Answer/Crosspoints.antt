@@ -1,13 +1,12 @@
 -- What a line that names a cross-point does: it puts this output of the routing word, and leaves every other output and every other parameter as it was.
-use Rattle.std.specs.Prelude.{◌≡◌, refl, true, ℕ, ◌+◌, ◌≤◌, ◌<◌, ℤ, pos, nat_abs, get_or, set}
+use Rattle.std.specs.Prelude.{◌≡◌, true, ℕ, ◌+◌, ◌≤◌, ◌<◌, ℤ, pos, nat_abs, get_or, set}
 use Rattle.std.proofs.Math.Path.{sym}
-use Rattle.std.proofs.Common.{◌∙◌, ap, arith, get_or-set_same, get_or-set_other}
+use Rattle.std.proofs.Common.{◌∙◌, ap, get_or-set_same, get_or-set_other}
 use mathlib.Core.List.{List}
 use Rattle.std.proofs.Math.ListN.{length}
 use Rattle.text.specs.Cut.{part}
 use Rattle.text.specs.Word.{bit, with_bit}
 use Rattle.text.specs.Word.Outputs.{output_put, outputs_left}
-use Rattle.catalogue.specs.declared.groups.Part.{Part}
 use Rattle.catalogue.specs.declared.groups.Part.TheVariants.{Output}
 use Rattle.room.specs.Table.{sound}
 use Rattle.values.specs.Parameters.{place}

@@ -1,14 +1,12 @@
 -- A fault is told exactly where the reply is 99: it is the cause and the place that the line's shape tells.
-use Rattle.std.specs.Prelude.{◌≡◌, ◌↔◌, List, ℕ, ◌+◌, ◌≤◌, ℤ, pos}
+use Rattle.std.specs.Prelude.{◌≡◌, ◌↔◌, List, ℕ, ◌≤◌, ℤ, pos}
 use Rattle.std.proofs.Math.Path.{refl, sym, ap}
 use Rattle.std.proofs.Common.{◌∙◌, arith}
 use Rattle.std.proofs.Math.ListN.{length, get_or}
-use Rattle.text.specs.Cut.{part}
 use Rattle.values.specs.Parameters.{place}
 use Rattle.values.specs.Room.{Room, row_in}
 use Rattle.syntax.specs.Shape.{shape}
 use Rattle.syntax.specs.Shape.Causes.{place-within}
-use Rattle.syntax.specs.IndexPart.{read_indices}
 use Rattle.syntax.specs.Value.{read_value}
 use Rattle.syntax.specs.declared.cause.Cause.{Cause}
 use Rattle.syntax.specs.declared.shape.Shape.{Shape}
@@ -18,13 +16,12 @@ use Rattle.syntax.specs.declared.value_text.ValueText.TheVariants as value
 use Rattle.spelling.specs.Acknowledgement.{nak}
 use Rattle.spelling.specs.Acknowledgement.Laws.{ack-length, nak-begins, nak-length, nak-tells}
 use Rattle.spelling.specs.Reply.Laws.{get_spelled}
-use Rattle.line.specs.Meaning.{Target, target, code, bearer_of, get_of, in_room, meaning, of_shape, put_of, set_of}
+use Rattle.line.specs.Meaning.{Target, target, code, bearer_of, get_of, meaning, of_shape, put_of, set_of}
 use Rattle.line.specs.Answer.{act, answer}
 use Rattle.line.specs.Answer.Laws.{answered}
 use Rattle.line.specs.Answer.Replying.{code_few}
 use Rattle.line.specs.declared.meaning.Meaning.{Meaning}
 use Rattle.line.specs.declared.meaning.Meaning.TheVariants.{Malformed, Code, Get, Put}
-use Rattle.line.specs.declared.fault.Fault.{Fault}
 use Rattle.line.specs.declared.fault.Fault.TheVariants.{Nothing, At}
 
 never {ℓ} : {A : Type ℓ} (k : Cause) (n : ℕ) → Nothing ≡ At k n → A

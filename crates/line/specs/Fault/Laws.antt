@@ -1,5 +1,5 @@
 -- The two numbers of a fault, as rules for code that tells them.
-use Rattle.std.specs.Prelude.{◌≡◌, refl, List, [], ◌∷◌, ℕ, get_or}
+use Rattle.std.specs.Prelude.{◌≡◌, refl, [], ◌∷◌, ℕ, get_or}
 use Rattle.syntax.specs.Cause.{cause_number}
 use Rattle.syntax.specs.declared.cause.Cause.{Cause}
 use Rattle.line.specs.Fault.{fault_numbers}

@@ -1,5 +1,5 @@
 -- A part that a parameter has: an output is one of 32, and its parameter's value a word of as many bits.
-use Rattle.std.specs.Prelude.{◌≡◌, refl, true, ℕ, ◌≤◌, ◌<◌, ◌^◌, ℤ, pos, nat_abs}
+use Rattle.std.specs.Prelude.{◌≡◌, refl, true, ℕ, ◌<◌, ◌^◌, ℤ, pos, nat_abs}
 use Rattle.std.proofs.Common.{sym, ◌∙◌, ap, arith}
 use Rattle.catalogue.specs.Catalogue.{known_layout}
 use Rattle.catalogue.specs.Catalogue.Sized.{Sized, permitted-sized}
@@ -9,7 +9,7 @@ use Rattle.catalogue.specs.Mixer.{route_row}
 use Rattle.catalogue.specs.Mixer.Permitted.{WordOf, permitted-word}
 use Rattle.catalogue.specs.Row.{permitted}
 use Rattle.catalogue.specs.declared.groups.Part.{Part}
-use Rattle.catalogue.specs.declared.groups.Part.TheVariants.{Whole, Output}
+use Rattle.catalogue.specs.declared.groups.Part.TheVariants.{Output}
 use Rattle.catalogue.specs.declared.row.Kind.{Kind}
 use Rattle.catalogue.specs.declared.row.Kind.TheVariants.{Word}
 use Rattle.values.specs.Control.Laws.{PartOf, all, output}

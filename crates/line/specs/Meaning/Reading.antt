@@ -7,7 +7,7 @@ use Rattle.catalogue.specs.Row.{RowFits}
 use Rattle.catalogue.specs.Row.Laws.{bits}
 use Rattle.catalogue.specs.Row.Near.{permitted-bits}
 use Rattle.values.specs.Control.{named}
-use Rattle.values.specs.Parameters.{parameters, place}
+use Rattle.values.specs.Parameters.{place}
 use Rattle.values.specs.Parameters.First.{place_is}
 use Rattle.catalogue.specs.declared.groups.Groups.{Groups}
 use Rattle.catalogue.specs.declared.groups.Part.{Part}

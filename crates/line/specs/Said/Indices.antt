@@ -1,6 +1,6 @@
 -- Index groups as they are written read back, and no text that says them is shorter.
 use Rattle.std.specs.Prelude.{◌≡◌, refl, true, List, ℕ, ◌≤◌, ◌<◌, length}
-use Rattle.std.proofs.Common.{◌∙◌, ap, arith, length-append}
+use Rattle.std.proofs.Common.{arith, length-append}
 use Rattle.text.specs.Digits.{digits}
 use Rattle.text.specs.Number.Laws.{number-back, number-shortest}
 use Rattle.catalogue.specs.Catalogue.Sized.{sized_indices}

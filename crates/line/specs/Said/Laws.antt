@@ -1,5 +1,5 @@
 -- The set line that is written is made of bytes, has no 0D, and reads back as a put of its value.
-use Rattle.std.specs.Prelude.{◌≡◌, Bool, true, false, List, [], ◌∷◌, ℕ, ◌≤◌, ◌<◌, ◌^◌, leb, ℤ, negsuc, nat_abs, length, get_or, set}
+use Rattle.std.specs.Prelude.{◌≡◌, Bool, true, false, List, [], ◌∷◌, ℕ, ◌≤◌, ◌<◌, ◌^◌, leb, ℤ, nat_abs, length, get_or, set}
 use Rattle.std.proofs.Math.Path.{refl, ap}
 use Rattle.std.proofs.Common.{sym, ◌∙◌, arith, leb-true, leb-false}
 use Rattle.std.proofs.Math.IntN.{pos}
@@ -9,14 +9,13 @@ use Rattle.text.specs.Every.{every}
 use Rattle.text.specs.Byte.Values.{return_other}
 use Rattle.record.specs.Field.Bytes.{label-bytes}
 use Rattle.room.specs.Label.{label, bearer}
-use Rattle.text.specs.Word.{bit, differing, with_bit}
+use Rattle.text.specs.Word.{bit, differing}
 use Rattle.text.specs.Word.Apart.{differ-alone, differ-at}
 use Rattle.values.specs.Control.Laws.{PartOf, all, output}
 use Rattle.values.specs.Parameters.{parameters, parameter_at, place}
 use Rattle.catalogue.specs.Row.{permitted}
 use Rattle.room.specs.Table.{sound}
 use Rattle.catalogue.specs.declared.groups.Part.{Part}
-use Rattle.catalogue.specs.declared.groups.Part.TheVariants.{Whole, Output}
 use Rattle.catalogue.specs.declared.row.Kind.{Kind}
 use Rattle.catalogue.specs.declared.row.Kind.TheVariants.{Word}
 use Rattle.room.specs.declared.label.Bearer.TheVariants.{Only}

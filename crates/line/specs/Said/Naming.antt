@@ -29,7 +29,7 @@ use Rattle.syntax.specs.Shape.{shape}
 use Rattle.syntax.specs.Shape.Laws.{SetLine, set_line_length, set_line_shape, set_line_label, set_line_indices, set_line_text}
 use Rattle.syntax.specs.IndexPart.{read_indices}
 use Rattle.line.specs.Said.Indices.{indices-back, row_small}
-use Rattle.line.specs.Meaning.Outputs.{part_in, output_in}
+use Rattle.line.specs.Meaning.Outputs.{part_in}
 use Rattle.syntax.specs.Value.Laws.{Valued}
 use Rattle.values.specs.Room.{Room, row_in}
 use Rattle.line.specs.Meaning.Laws.{Names, Puts}

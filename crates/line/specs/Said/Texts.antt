@@ -1,5 +1,5 @@
 -- Value texts as they are written: they read back, and no text of the same value is shorter.
-use Rattle.std.specs.Prelude.{◌≡◌, refl, List, ℕ, zero, suc, ◌≤◌, ◌<◌, ℤ, pos, nat_abs, length}
+use Rattle.std.specs.Prelude.{◌≡◌, List, ℕ, zero, suc, ◌≤◌, ◌<◌, ℤ, pos, nat_abs, length}
 use Rattle.std.proofs.Common.{sym, ◌∙◌, ap, arith}
 use Rattle.text.specs.Level.Laws.{level-shortest, level-back}
 use Rattle.text.specs.Number.Laws.{number-back, number-shortest}
@@ -8,7 +8,7 @@ use Rattle.text.specs.Switch.Laws.{off_back, on_back, switch-one, switch-length}
 use Rattle.text.specs.Word.{bit, with_bit}
 use Rattle.text.specs.Word.Outputs.{output_small}
 use Rattle.text.specs.Word.Text.{word_back, word-only}
-use Rattle.text.specs.declared.switch.Switch.TheVariants.{On, Off, Wrong}
+use Rattle.text.specs.declared.switch.Switch.TheVariants.{Wrong}
 use Rattle.catalogue.specs.declared.groups.Part.{Part}
 use Rattle.catalogue.specs.declared.groups.Part.TheVariants.{Whole, Output}
 use Rattle.catalogue.specs.Catalogue.Sized.{Sized}

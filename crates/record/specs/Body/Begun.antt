@@ -1,7 +1,7 @@
 -- The sound body that begins some bytes: how long it is.
-use Rattle.std.specs.Prelude.{◌≡◌, Bool, ◌&&◌, List, ℕ, ◌≤◌, ◌<◌, leb, length, take}
+use Rattle.std.specs.Prelude.{◌≡◌, Bool, ◌&&◌, List, ℕ, ◌≤◌, leb, length, take}
 use Rattle.std.proofs.Math.Path.{refl}
-use Rattle.std.proofs.Common.{sym, arith, length-take}
+use Rattle.std.proofs.Common.{arith, length-take}
 use Rattle.std.proofs.Math.Bool.{true, false, cond}
 use Rattle.record.specs.Body.{body_length, body_sound, sizes_sound}
 use Rattle.record.specs.Body.Laws.{body_long, sound-body}

@@ -1,6 +1,6 @@
 -- How long a table may be: at most 64 records, each of a kind and the longest body.
 use Rattle.std.specs.Prelude.{◌≡◌, true, List, [], ◌∷◌, ℕ, zero, suc, ◌*◌, ◌≤◌, length, take, drop}
-use Rattle.std.proofs.Common.{arith, length-drop, length-take}
+use Rattle.std.proofs.Common.{arith, length-drop}
 use Rattle.text.specs.Every.Laws.{both, never}
 use Rattle.record.specs.Body.{body_length, body_sound}
 use Rattle.record.specs.Body.Laws.{body_most}

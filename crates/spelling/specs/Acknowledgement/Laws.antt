@@ -1,5 +1,5 @@
 -- How long ACK and NAK are, and how they begin; the code that a NAK tells.
-use Rattle.std.specs.Prelude.{◌≡◌, refl, List, ℕ, ◌+◌, ◌/◌, ◌%◌, length, get_or}
+use Rattle.std.specs.Prelude.{◌≡◌, refl, ℕ, ◌+◌, ◌/◌, ◌%◌, length, get_or}
 use Rattle.std.proofs.Common.{ap, arith}
 use Rattle.spelling.specs.Acknowledgement.{ack, nak}
 

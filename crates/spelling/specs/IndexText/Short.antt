@@ -1,7 +1,6 @@
 -- The index groups of a row's part are short.
 use Rattle.std.specs.Prelude.{◌≡◌, refl, true, ℕ, ◌≤◌, ◌<◌, length}
 use Rattle.std.proofs.Common.{arith, length-append}
-use Rattle.text.specs.Digits.{digits}
 use Rattle.text.specs.Digits.Value.{digits-short}
 use Rattle.catalogue.specs.Catalogue.Sized.{sized_indices}
 use Rattle.catalogue.specs.Catalogue.Sized.Groups as groups

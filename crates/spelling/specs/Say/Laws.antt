@@ -1,7 +1,7 @@
 -- The set line of the restore list is the line that sets a part; which part that is.
 use Rattle.std.specs.Prelude.{◌≡◌, refl, List, [], ◌∷◌, ℕ, zero, suc, ◌≤◌, ℤ, nat_abs}
 use Rattle.std.proofs.Common.{arith}
-use Rattle.text.specs.Word.{differing, only_differing}
+use Rattle.text.specs.Word.{differing}
 use Rattle.text.specs.Word.Apart as word
 use Rattle.text.specs.Word.Apart.{only_told}
 use Rattle.catalogue.specs.Groups.{PartIn}

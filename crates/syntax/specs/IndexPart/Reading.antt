@@ -1,7 +1,7 @@
 -- Rules for the code that reads an index part.
 use Rattle.std.specs.Prelude.{◌≡◌, List, [], ◌∷◌, ℕ, suc, ◌+◌, ◌-◌, ◌<◌, ◌≤◌, length, get_or, take, drop}
 use Rattle.std.proofs.Math.Path.{refl, sym}
-use Rattle.std.proofs.Common.{ap, ◌∙◌, arith, eq-eqb, ne_eqb, length-take, take_all}
+use Rattle.std.proofs.Common.{ap, ◌∙◌, arith, eq-eqb, ne_eqb, take_all}
 use Rattle.text.specs.Cut.{index_of}
 use Rattle.text.specs.Cut.Found.{after-found, before-found, has-found, has-none}
 use Rattle.text.specs.Number.{read_number}

@@ -14,7 +14,7 @@ use Rattle.syntax.specs.Shape.{line_limit, is_set, is_get, opening, closing, equ
 use Rattle.syntax.specs.declared.cause.Cause.{Cause}
 use Rattle.syntax.specs.declared.cause.Cause.TheVariants.{Overrun, NoVerb, NoOpeningQuote, NoClosingQuote, NoEquals}
 use Rattle.syntax.specs.declared.shape.Shape.{Shape}
-use Rattle.syntax.specs.declared.shape.Shape.TheVariants.{Malformed, Get, Set}
+use Rattle.syntax.specs.declared.shape.Shape.TheVariants.{Malformed, Set}
 
 -- ---- the conditions in words
 

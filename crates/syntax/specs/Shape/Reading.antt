@@ -7,14 +7,13 @@ use Rattle.std.proofs.Math.ListN.{get_or-eq_default}
 use Rattle.room.specs.Label.{same}
 use Rattle.room.specs.Label.Match.{same_not, same_refl}
 use Rattle.syntax.specs.Shape.{line_limit, is_set, is_get, opening, closing, equals, get_shape, set_shape, quoted, shape}
-use Rattle.syntax.specs.Shape.Quotes.{Between, no_place, quotes, quotes-at, quotes-missing}
+use Rattle.syntax.specs.Shape.Quotes.{Between, quotes, quotes-at, quotes-missing}
 use Rattle.syntax.specs.declared.cause.Cause.{Cause}
 use Rattle.syntax.specs.declared.cause.Cause.TheVariants.{Overrun, NoVerb, NoOpeningQuote, NoClosingQuote, NoEquals}
 use Rattle.syntax.specs.declared.shape.Quotes.{Quotes}
 use Rattle.syntax.specs.declared.shape.Quotes.TheVariants.{At, Missing}
 use Rattle.syntax.specs.declared.shape.Shape.{Shape}
 use Rattle.syntax.specs.declared.shape.Shape.TheVariants.{Malformed, Get, Set}
-use Rattle.syntax.specs.Shape.Laws.{after-verb}
 
 -- ---- the opening quote
 

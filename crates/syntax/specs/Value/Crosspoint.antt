@@ -1,7 +1,7 @@
 -- What a switch's text makes of one output of a routing word: which values it may say, and the code that reads it.
 use Rattle.std.proofs.Math.Path.{◌≡◌, refl, sym, ap}
 use Rattle.std.proofs.Common.{◌∙◌, arith, to_z-of_z, SFits, to_z}
-use Rattle.std.specs.Prelude.{List, ℕ, zero, suc, ◌-◌, ◌≤◌, ◌<◌, ◌^◌, ℤ, negsuc, nat_abs, ◌-ℤ◌}
+use Rattle.std.specs.Prelude.{List, ℕ, zero, suc, ◌-◌, ◌≤◌, ◌<◌, ◌^◌, ℤ, nat_abs, ◌-ℤ◌}
 use Rattle.std.proofs.Math.IntN.{pos}
 use Rattle.std.specs.Int.Signed.{mag}
 use Rattle.std.proofs.Math.Facts.{to_z_pos}

@@ -1,5 +1,5 @@
 -- Laws of the bits of a number: a bit put and read back, the others left, numbers with the same bits, and bits by powers of two.
-use Rattle.std.specs.Prelude.{◌≡◌, refl, ℕ, zero, suc, ◌+◌, ◌-◌, ◌*◌, ◌/◌, ◌%◌, ◌^◌, ◌<◌}
+use Rattle.std.specs.Prelude.{◌≡◌, refl, ℕ, zero, suc, ◌+◌, ◌*◌, ◌/◌, ◌%◌, ◌^◌, ◌<◌}
 use Rattle.std.proofs.Common.{sym, ◌∙◌, ap, arith, pow_pos, shr-shr}
 use Rattle.std.proofs.Math.Arith.{mod-mul}
 use Rattle.text.specs.Word.{bit_at, put_at}

@@ -18,8 +18,7 @@ use Rattle.catalogue.specs.declared.row.Kind.TheVariants.{Level, Switch, Number,
 use Rattle.room.specs.declared.table.Module.{Module}
 use Rattle.values.specs.Control.{is_word, whole, crosspoint, named}
 use Rattle.values.specs.Parameters.{parameters_of, parameter_at, with_indices}
-use Rattle.values.specs.Parameters.Named.{IndexedBy, indexed-told, indexed-back, word-routed}
-use Rattle.values.specs.declared.control.ControlFound.{ControlFound}
+use Rattle.values.specs.Parameters.Named.{indexed-told, indexed-back, word-routed}
 use Rattle.values.specs.declared.control.ControlFound.TheVariants.{At, Nothing}
 use Rattle.values.specs.declared.parameter.Parameter.{Parameter}
 use Rattle.values.specs.declared.parameter.ParameterFound.{ParameterFound}

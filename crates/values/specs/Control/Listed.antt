@@ -1,5 +1,5 @@
 -- Rules for what is sought in a module that is no mixer.
-use Rattle.std.specs.Prelude.{◌≡◌, Bool, true, false, ◌&&◌, ℕ, ◌≤◌, ◌<◌, leb}
+use Rattle.std.specs.Prelude.{◌≡◌, Bool, true, false, ℕ, ◌≤◌, ◌<◌}
 use Rattle.std.proofs.Math.Path.{refl}
 use Rattle.std.proofs.Common.{ap, sym, ◌∙◌}
 use Rattle.catalogue.specs.Catalogue.{fixed, row_of}
@@ -20,7 +20,6 @@ use Rattle.values.specs.Parameters.Named.{indexed-told}
 use Rattle.values.specs.Parameters.Seeking.{Seeking, row_inside, seek_found, seek-next, seek-none, seek-start}
 use Rattle.values.specs.declared.control.ControlFound.{ControlFound}
 use Rattle.values.specs.declared.control.ControlFound.TheVariants.{At, Nothing}
-use Rattle.values.specs.declared.parameter.Parameter.{Parameter}
 use Rattle.values.specs.declared.parameter.ParameterFound.{ParameterFound}
 use Rattle.values.specs.declared.parameter.ParameterFound.TheVariants as parameter
 

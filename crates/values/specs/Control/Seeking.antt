@@ -1,6 +1,6 @@
 -- Rules for the code that finds what index groups name.
 use Rattle.std.specs.Prelude.{◌≡◌, refl, Bool, true, false, cond, not, ◌&&◌, ℕ, ◌≤◌, ◌<◌, eqb, leb}
-use Rattle.std.proofs.Common.{sym, ◌∙◌, arith, eq-eqb, le-leb, ne_eqb}
+use Rattle.std.proofs.Common.{sym, ◌∙◌, eq-eqb, le-leb, ne_eqb}
 use Rattle.std.proofs.lemmas.Bool.{lt-leb, not-false, not-true}
 use Rattle.catalogue.specs.declared.groups.Group.{Group}
 use Rattle.catalogue.specs.declared.groups.Group.TheVariants.{Single, Pair}

@@ -10,7 +10,7 @@ use Rattle.room.specs.declared.table.ModuleFound.TheVariants as table
 use Rattle.values.specs.Parameters.{by_row, parameter_at, parameters_of, row_at}
 use Rattle.values.specs.Parameters.Laws.{length-parameters_of}
 use Rattle.values.specs.declared.parameter.Parameter.{Parameter}
-use Rattle.values.specs.declared.parameter.ParameterFound.TheVariants.{At, Nothing}
+use Rattle.values.specs.declared.parameter.ParameterFound.TheVariants.{Nothing}
 
 -- no module has the number, or the one that has it has no such row
 pub data Missing (t : List ℕ) (owner row : ℕ) : Type 0 where

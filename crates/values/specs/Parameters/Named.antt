@@ -1,5 +1,5 @@
 -- A module and indices name a parameter: which one, and each by its own row's indices.
-use Rattle.std.specs.Prelude.{◌≡◌, refl, Bool, true, false, cond, List, [], ◌∷◌, ℕ, zero, suc, ◌+◌, ◌<◌}
+use Rattle.std.specs.Prelude.{◌≡◌, refl, Bool, true, false, cond, List, [], ◌∷◌, ℕ, zero, suc, ◌+◌}
 use Rattle.std.proofs.Common.{ap, sym, ◌∙◌, zero-add}
 use Rattle.catalogue.specs.Catalogue.{known_layout, rows_of}
 use Rattle.text.specs.Every.Laws.{every-both, pairs-both}

@@ -24,7 +24,7 @@ pub returns-then-is_place : goal.returns-then-is_place
 returns-then-is_place c =
     let inside = place-within c.args.want c.is_place.result c.args.row.now c.args.number c.is_place.ensures c.if-is_place.true in
     let done : SwitchesOne c.args.want (get_or c.args.row.now c.args.number closed) c.switch_one-done.result =
-        subst (λ (x : Connection). SwitchesOne c.args.want x c.switch_one-done.result) (get_or_default c.args.row.now c.args.number _ closed inside) c.switch_one-done.ensures in
+    subst (λ (x : Connection). SwitchesOne c.args.want x c.switch_one-done.result) (get_or_default c.args.row.now c.args.number _ closed inside) c.switch_one-done.ensures in
     switched_at c.args.want c.is_place.result c.args.row.now c.args.number c.is_place.ensures c.switch_one-done.result c.if-is_place.true done
 
 pub returns : goal.returns

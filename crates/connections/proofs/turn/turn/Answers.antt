@@ -14,7 +14,7 @@ turn_at-requires c = omega (arith, picked-below c.look_over-survey.result.flags 
 pub returns-then-row-eq32 : goal.returns-then-row-eq32
 returns-then-row-eq32 c =
     let survey : c.look_over-survey.result ≡ surveyed_from 0 c.args.row.now nothing_noted =
-        c.look_over-survey.ensures ∙ ap (λ (s : Survey). surveyed_from 0 c.args.row.now s) c.nothing_noted.ensures in
+    c.look_over-survey.ensures ∙ ap (λ (s : Survey). surveyed_from 0 c.args.row.now s) c.nothing_noted.ensures in
     turn-lent (room_of c.args.table.now) (asked c.args.row.now c.args.last c.args.counts.now c.args.given.now c.args.values.now c.args.reply.now)
     c.look_over-survey.result c.pick-at.result c.turn_at.result c.turn_at.new.row c.turn_at.new.values c.turn_at.new.reply
     c.if-row-eq32.true survey c.pick-at.ensures c.turn_at.ensures

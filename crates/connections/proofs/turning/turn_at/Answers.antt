@@ -11,7 +11,7 @@ pub returns : goal.returns
 returns c =
     let done = c.turn_one-done in
     let made : TurnsOne (room_of c.args.table.now) c.args.survey c.args.last c.args.counts.now c.args.given.now c.args.values.now c.args.reply.now
-        (get_or c.args.row.now c.args.number closed) done.result done.new.values done.new.reply =
-        subst (λ (x : Connection). TurnsOne (room_of c.args.table.now) c.args.survey c.args.last c.args.counts.now c.args.given.now c.args.values.now c.args.reply.now x done.result done.new.values done.new.reply)
-        (get_or_default c.args.row.now c.args.number _ closed c.requires) done.ensures in
+    (get_or c.args.row.now c.args.number closed) done.result done.new.values done.new.reply =
+    subst (λ (x : Connection). TurnsOne (room_of c.args.table.now) c.args.survey c.args.last c.args.counts.now c.args.given.now c.args.values.now c.args.reply.now x done.result done.new.values done.new.reply)
+    (get_or_default c.args.row.now c.args.number _ closed c.requires) done.ensures in
     turns_at done.result made refl refl

@@ -1,6 +1,6 @@
 -- How a turn for one connection keeps its promise.
-use Rattle.std.specs.Prelude.{◌≡◌, refl, Bool, true, ◌&&◌, List, [], ℕ, ◌+◌, ◌-◌, ◌^◌, ◌≤◌, ◌<◌, leb, ℤ, length, get_or, take, drop}
-use Rattle.std.proofs.Common.{sym, ◌∙◌, ap, arith, leb-true}
+use Rattle.std.specs.Prelude.{◌≡◌, refl, Bool, true, ◌&&◌, List, ℕ, ◌+◌, ◌-◌, ◌^◌, ◌≤◌, ◌<◌, leb, ℤ, length, get_or, take, drop}
+use Rattle.std.proofs.Common.{sym, ◌∙◌, arith, leb-true}
 use Rattle.text.specs.Every.Laws.{both}
 use Rattle.room.specs.Refusal.Laws.{all_passed, passed_test}
 use Rattle.room.specs.Table.{sound}
@@ -21,7 +21,6 @@ use Rattle.connections.specs.Turn.Single.{still, ServesNext, serves_next, Serves
 use Rattle.connections.specs.declared.connection.Connection.{Connection}
 use Rattle.connections.specs.declared.round.Served.{Served}
 use Rattle.connections.specs.declared.round.Served.TheVariants.{Nobody, One}
-use Rattle.connections.specs.declared.serving.PortAnswer.{PortAnswer}
 use Rattle.connections.specs.declared.serving.ServedOne.{ServedOne}
 use Rattle.connections.specs.declared.survey.Survey.{Survey}
 use Rattle.connections.specs.declared.turning.Turned.{Turned}

@@ -18,7 +18,7 @@ use Rattle.values.specs.Values.Laws.{equal-refl, equal-true}
 use Rattle.values.specs.declared.parameter.Parameter.{Parameter}
 use Rattle.values.specs.declared.parameter.ParameterFound.TheVariants.{At}
 use Rattle.spelling.specs.Line.{line_for}
-use Rattle.spelling.specs.Say.{say, said_part}
+use Rattle.spelling.specs.Say.{say}
 use Rattle.spelling.specs.Say.Laws.{SaidBy, plain, same, alone, more, said-by, say-line}
 use Rattle.line.specs.Said.Fewest.{pair_shorter, pairs-longer, words-alike, pairs-alike}
 use Rattle.line.specs.Said.Price.{Costs, by_whole, by_output}

@@ -55,11 +55,11 @@ find_bearer_spec =
     (λ c. search (seeking, walking, rules))  -- enum-told-2
     (λ c. search (seeking, walking, rules))  -- records-less-3
     (λ c. elim c.else-size-lt32.branch [
-        else-size-lt32-via-then-size-lt32+else-table-label-ne0 w ↦ search (seeking, walking, rules)
-        | else-size-lt32-via-else-size-lt32 w ↦ search (seeking, walking, rules)
-      ])  -- records-again-3
+      | else-size-lt32-via-then-size-lt32+else-table-label-ne0 w ↦ search (seeking, walking, rules)
+      | else-size-lt32-via-else-size-lt32 w ↦ search (seeking, walking, rules)
+    ])  -- records-again-3
     (λ c. search (seeking, walking, rules))  -- returns-2
     (λ c. elim c.else-size-lt32.branch [
-        else-size-lt32-via-then-size-lt32+else-table-label-ne0 w ↦ search (seeking, walking, rules)
-        | else-size-lt32-via-else-size-lt32 w ↦ search (seeking, walking, rules)
-      ]))  -- returns-3
+      | else-size-lt32-via-then-size-lt32+else-table-label-ne0 w ↦ search (seeking, walking, rules)
+      | else-size-lt32-via-else-size-lt32 w ↦ search (seeking, walking, rules)
+    ]))  -- returns-3
