@@ -9,12 +9,15 @@ ghost use Rattle.port.specs.Input.{AnswersAll};
 use crate::standard_input::{Came, Turn, answer_read};
 use catalogue::table::all_rows;
 use serial_port::port::Port;
+use std::io::{Read, Write};
 use values::VALUES;
 use values::starts::fill_starts;
 
 // Answers read after read, until the input ends or a reply cannot be written, and hands the last answer back. A proved loop has to end, and nothing
 // says that the input does: so it counts its turns down, from a number that no run uses up.
 fn answer_all(
+    reader: &mut impl Read,
+    writer: &mut impl Write,
     table: &[u8],
     rows: &[[i32; 8]; 50],
     values: &mut [i64],
@@ -29,7 +32,7 @@ fn answer_all(
     let mut port = port;
     let mut turns = u64::MAX;
     loop {
-        let turn = answer_read(table, rows, values, port, input, out);
+        let turn = answer_read(reader, writer, table, rows, values, port, input, out);
         let came = turn.came;
         match came {
             Came::Nothing => return turn,
@@ -52,23 +55,32 @@ fn value_list() -> [i64; VALUES]
     [0; VALUES]
 }
 
-// Room for one read: for each byte of it the large buffer has room for a reply.
+// Room for one read: for each byte of it the buffer below has room for a reply.
 fn input_buffer() -> [u8; 1024]
     ensures { 1024 ≡ length result }
 {
     [0; 1024]
 }
 
+// Room for the replies to one read.
+fn reply_buffer() -> [u8; 65536]
+    ensures { 65536 ≡ length result }
+{
+    [0; 65536]
+}
+
 // Serves standard input from the start values on.
-pub(crate) fn serve_input(table: &[u8])
+pub(crate) fn serve_input(reader: &mut impl Read, writer: &mut impl Write, table: &[u8])
     requires { sound table.now ≡ true }
 {
     let rows = all_rows();
     let mut space = value_list();
     let count = fill_starts(table, &rows, &mut space);
     let mut input = input_buffer();
-    let mut out = io::large_buffer();
+    let mut out = reply_buffer();
     answer_all(
+        reader,
+        writer,
         table,
         &rows,
         &mut space[..count],

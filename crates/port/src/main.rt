@@ -7,27 +7,30 @@ mod standard_input;
 mod table;
 
 use crate::input::serve_input;
+use crate::standard_input::write_whole;
 use crate::table::{read_file, table_buffer};
-use libc::STDOUT_FILENO;
 use room::table::is_sound;
+use std::io::Write;
 
 // How many bytes a table may have.
 const TABLE: usize = 2240;
 
-fn refuse() {
-    io::write_all(STDOUT_FILENO, b"refused 1\r");
+fn refuse(writer: &mut impl Write) {
+    write_whole(writer, b"refused 1\r");
 }
 
-fn main() {
+fn main(rt: HostRuntime) {
+    let mut reader = rt.stdin();
+    let mut writer = rt.stdout();
     let mut space = table_buffer();
-    let length = read_file(b"table", &mut space);
+    let length = read_file(&rt, b"table", &mut space);
     if TABLE < length {
-        refuse();
+        refuse(&mut writer);
         return;
     }
     if !is_sound(&space[..length]) {
-        refuse();
+        refuse(&mut writer);
         return;
     }
-    serve_input(&space[..length]);
+    serve_input(&mut reader, &mut writer, &space[..length]);
 }

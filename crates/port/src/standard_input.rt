@@ -7,8 +7,8 @@ ghost use Rattle.values.specs.Values.{values_sound};
 ghost use Rattle.port.specs.Input.{AnswersRead};
 
 use crate::bytes::answer_bytes;
-use libc::{STDIN_FILENO, STDOUT_FILENO};
 use serial_port::port::Port;
+use std::io::{Read, Write};
 
 // What came of a read: nothing, or so many bytes, whose replies were written, or could not be.
 #[derive(Clone, Copy)]
@@ -25,8 +25,28 @@ pub struct Turn {
     pub came: Came,
 }
 
+// Reads once, and tells how many bytes came: none where the input ends or the read fails.
+fn read_once(reader: &mut impl Read, buffer: &mut [u8]) -> usize
+    ensures { result ≤ length buffer.new }
+{
+    match reader.read(buffer) {
+        Ok(count) => count,
+        Err(_) => 0,
+    }
+}
+
+// Writes all the bytes, so that they have left the program, and tells whether that went.
+pub(crate) fn write_whole(writer: &mut impl Write, bytes: &[u8]) -> bool {
+    if writer.write_all(bytes).is_err() {
+        return false;
+    }
+    writer.flush().is_ok()
+}
+
 // Answers one read. Which bytes come, and which are written, is outside the proof.
 pub(crate) fn answer_read(
+    reader: &mut impl Read,
+    writer: &mut impl Write,
     table: &[u8],
     rows: &[[i32; 8]; 50],
     values: &mut [i64],
@@ -38,8 +58,7 @@ pub(crate) fn answer_read(
     requires len_bound { (port.len ≤ 64) × (64 * length input.old ≤ length out.old) }
     ensures { AnswersRead (room_of table.now) values.old port input.new out.old result values.new out.new }
 {
-    let got = libc::read(STDIN_FILENO, input);
-    let count = io::count(got, input);
+    let count = read_once(reader, input);
     if count == 0 {
         return Turn {
             port: port,
@@ -49,7 +68,7 @@ pub(crate) fn answer_read(
     let answered = answer_bytes(table, rows, values, port, &input[..count], out);
     let after = answered.port;
     let sent = answered.sent;
-    if !io::write_all(STDOUT_FILENO, &out[..sent]) {
+    if !write_whole(writer, &out[..sent]) {
         return Turn {
             port: after,
             came: Came::Unwritten(count),

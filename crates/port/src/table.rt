@@ -1,6 +1,10 @@
 // Reading the module table from its file.
 ghost use Rattle.std.specs.Prelude.{◌≡◌, ◌≤◌, length, replicate};
 
+use std::fs::File;
+use std::io::Read;
+use std::rt::Files;
+
 // Room for the longest table and one byte more, by which a longer one is seen.
 pub(crate) fn table_buffer() -> [u8; 2241]
     ensures { result ≡ replicate 2241 0 }
@@ -10,34 +14,30 @@ pub(crate) fn table_buffer() -> [u8; 2241]
 
 // Reads until the file ends or the buffer is full, and tells how many bytes came; all of the buffer where a read fails. What a file holds
 // is outside the proof, so the contract only limits the answer.
-fn read_to_end(fd: i32, buffer: &mut [u8]) -> usize
+fn read_to_end(file: &mut impl Read, buffer: &mut [u8]) -> usize
     ensures { result ≤ length buffer.new }
 {
     let mut at = 0;
     while at < buffer.len() {
-        let got = libc::read(fd, &mut buffer[at..]);
-        if got < 0 {
-            return buffer.len();
+        match file.read(&mut buffer[at..]) {
+            Ok(0) => return at,
+            Ok(count) => at += count,
+            Err(_) => return buffer.len(),
         }
-        let count = io::count(got, &buffer[at..]);
-        if count == 0 {
-            return at;
-        }
-        at += count;
     }
     at
 }
 
 // The length of a file that was read into the buffer; all of the buffer where it is missing, can't be read or is longer. The contract only
 // limits it, as above.
-pub(crate) fn read_file(path: &[u8], buffer: &mut [u8]) -> usize
+pub(crate) fn read_file(files: &impl Files, path: &[u8], buffer: &mut [u8]) -> usize
     ensures { result ≤ length buffer.new }
 {
-    let fd = os::open_read(path);
-    if fd < 0 {
+    let Ok(name) = str::from_utf8(path) else {
         return buffer.len();
+    };
+    match File::open(files, name) {
+        Ok(mut file) => read_to_end(&mut file, buffer),
+        Err(_) => buffer.len(),
     }
-    let length = read_to_end(fd, buffer);
-    libc::close(fd);
-    length
 }

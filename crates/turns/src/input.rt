@@ -5,23 +5,24 @@ ghost use Rattle.values.specs.Values.{value_limit};
 
 use crate::command::{more_of, sum_of};
 use crate::play::play;
+use crate::stream::{read_full, write_whole};
 use catalogue::table::all_rows;
 use connections::connection::{Connection, fresh_row};
-use libc::{STDIN_FILENO, STDOUT_FILENO};
+use std::io::{Read, Write};
 use values::VALUES;
 use values::starts::fill_starts;
 
 // Reads one command, and tells how many bytes it has: 0 where the input ends before it does. Which bytes come is outside the proof, so the contract only limits the answer.
-fn read_command(input: &mut [u8]) -> usize
+fn read_command(reader: &mut impl Read, input: &mut [u8]) -> usize
     requires { 8193 ≤ length input.old }
     ensures { result ≤ length input.new }
 {
-    let first = io::read_full(STDIN_FILENO, &mut input[..1]);
+    let first = read_full(reader, &mut input[..1]);
     if first == 0 {
         return 0;
     }
     let end = 1 + more_of(input[0]);
-    let more = io::read_full(STDIN_FILENO, &mut input[1..end]);
+    let more = read_full(reader, &mut input[1..end]);
     if more + 1 != end {
         return 0;
     }
@@ -29,7 +30,7 @@ fn read_command(input: &mut [u8]) -> usize
         return end;
     }
     let all = 33 + sum_of(&input[1..33]);
-    let bytes = io::read_full(STDIN_FILENO, &mut input[33..all]);
+    let bytes = read_full(reader, &mut input[33..all]);
     if bytes + 33 != all {
         return 0;
     }
@@ -39,6 +40,8 @@ fn read_command(input: &mut [u8]) -> usize
 // Plays command after command, until one is none or what it tells can't be written. A proved loop has to end, and nothing says that the input does: so it counts its commands down,
 // from a number that no run uses up.
 fn play_all(
+    reader: &mut impl Read,
+    writer: &mut impl Write,
     row: [Connection; 32],
     last: usize,
     table: &[u8],
@@ -52,18 +55,18 @@ fn play_all(
     let mut last = last;
     let mut commands = u64::MAX;
     while 0 < commands {
-        let length = read_command(input);
+        let length = read_command(reader, input);
         let played = play(row, last, table, &input[..length], values, reply);
         let count = played.count;
         if count == 0 {
             return;
         }
         let told = played.told;
-        if !io::write_all(STDOUT_FILENO, &told[..count]) {
+        if !write_whole(writer, &told[..count]) {
             return;
         }
         let sent = played.sent;
-        if !io::write_all(STDOUT_FILENO, &reply[..sent]) {
+        if !write_whole(writer, &reply[..sent]) {
             return;
         }
         row = played.row;
@@ -94,7 +97,7 @@ fn reply_buffer() -> [u8; 64]
 }
 
 // Plays standard input from the start values and the fresh row on.
-pub(crate) fn play_input(table: &[u8])
+pub(crate) fn play_input(reader: &mut impl Read, writer: &mut impl Write, table: &[u8])
     requires { sound table.now ≡ true }
 {
     let rows = all_rows();
@@ -105,6 +108,8 @@ pub(crate) fn play_input(table: &[u8])
     let fresh = fresh_row();
     let row = fresh.row;
     play_all(
+        reader,
+        writer,
         row,
         fresh.last,
         table,

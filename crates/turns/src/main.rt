@@ -4,27 +4,40 @@
 mod command;
 mod input;
 mod play;
+mod stream;
 mod told;
 
-use crate::input::play_input;
-use libc::STDOUT_FILENO;
-use room::table::is_sound;
+ghost use Rattle.std.specs.Prelude.{◌≡◌, length};
 
-fn refuse() {
-    io::write_all(STDOUT_FILENO, b"refused 1\r");
+use crate::input::play_input;
+use crate::stream::{read_full, write_whole};
+use room::table::is_sound;
+use std::fs::File;
+use std::io::Write;
+
+// Room for a table.
+fn table_buffer() -> [u8; 4096]
+    ensures { 4096 ≡ length result }
+{
+    [0; 4096]
 }
 
-fn main() {
-    let fd = os::open_read(b"table");
-    if fd < 0 {
-        refuse();
+fn refuse(writer: &mut impl Write) {
+    write_whole(writer, b"refused 1\r");
+}
+
+fn main(rt: HostRuntime) {
+    let mut reader = rt.stdin();
+    let mut writer = rt.stdout();
+    let Ok(mut file) = File::open(&rt, "table") else {
+        refuse(&mut writer);
         return;
-    }
-    let mut space = io::buffer();
-    let length = io::read_full(fd, &mut space);
+    };
+    let mut space = table_buffer();
+    let length = read_full(&mut file, &mut space);
     if !is_sound(&space[..length]) {
-        refuse();
+        refuse(&mut writer);
         return;
     }
-    play_input(&space[..length]);
+    play_input(&mut reader, &mut writer, &space[..length]);
 }

@@ -2,6 +2,7 @@
 // lists of the paper, each compared with the list that must come. What is expected wrongly is reported so.
 #![tactic(auto)]
 
+mod argument;
 mod compare;
 mod file;
 mod lists;
@@ -10,36 +11,46 @@ mod say;
 
 ghost use Rattle.std.specs.Prelude.{◌≤◌};
 
-use file::{read_file, table_buffer};
+use argument::{argument, argument_count};
+use file::{read_file, table_buffer, text_buffer};
 use lists::list_right;
 use play::play_script;
 use say::{say_list, say_tally};
+use std::rt::{Env, Files};
 
 // Plays the script of a file on the table of another, and says what came of it.
-fn play_file(table: &[u8], script: &[u8]) {
+fn play_file(rt: &(impl Files + Print), table: &[u8], script: &[u8]) {
     let mut records = table_buffer();
-    let n = read_file(table, &mut records);
-    let mut text = io::buffer();
-    let m = read_file(script, &mut text);
+    let n = read_file(rt, table, &mut records);
+    let mut text = text_buffer();
+    let m = read_file(rt, script, &mut text);
     let tally = play_script(&records[..n], &text[..m]);
-    say_tally(script, &records[..n], &text[..m], tally);
+    say_tally(rt, script, &records[..n], &text[..m], tally);
 }
 
 // The same for the files that two arguments name.
-fn play_arguments(i: usize, j: usize) {
-    let mut table = io::buffer();
-    let n = os::arg(i, &mut table);
-    let mut script = io::buffer();
-    let m = os::arg(j, &mut script);
-    play_file(&table[..n], &script[..m]);
+fn play_arguments(rt: &(impl Files + Env + Print), i: usize, j: usize) {
+    let mut table = text_buffer();
+    let n = argument(rt, i, &mut table);
+    let mut script = text_buffer();
+    let m = argument(rt, j, &mut script);
+    play_file(rt, &table[..n], &script[..m]);
 }
 
 // Asks for the list of the paper's wish, all values 0, and says whether it is the list of a file: S is chosen, and T where its byte is 1.
-fn list_file(table: &[u8], t: u8, room: usize, number: u8, lines: usize, file: &[u8])
+fn list_file(
+    rt: &(impl Files + Print),
+    table: &[u8],
+    t: u8,
+    room: usize,
+    number: u8,
+    lines: usize,
+    file: &[u8],
+)
     requires { room ≤ 64 }
 {
-    let mut text = io::buffer();
-    let n = read_file(file, &mut text);
+    let mut text = text_buffer();
+    let n = read_file(rt, file, &mut text);
     let mut buffer = [0u8; 64];
     let right = list_right(
         table,
@@ -51,26 +62,26 @@ fn list_file(table: &[u8], t: u8, room: usize, number: u8, lines: usize, file: &
         lines,
         &text[..n],
     );
-    say_list(file, right);
+    say_list(rt, file, right);
 }
 
 // The lists on table A: T and S, with room for 43 bytes and for 42; S alone; and one that is expected wrongly.
-fn list_files() {
+fn list_files(rt: &(impl Files + Print)) {
     let mut records = table_buffer();
-    let n = read_file(b"a.table", &mut records);
+    let n = read_file(rt, b"a.table", &mut records);
     let table = &records[..n];
-    list_file(table, 1, 43, 0, 4, b"both.list");
-    list_file(table, 1, 42, 8, 0, b"refused.list");
-    list_file(table, 0, 10, 0, 1, b"s.list");
-    list_file(table, 0, 10, 0, 1, b"wrong.list");
+    list_file(rt, table, 1, 43, 0, 4, b"both.list");
+    list_file(rt, table, 1, 42, 8, 0, b"refused.list");
+    list_file(rt, table, 0, 10, 0, 1, b"s.list");
+    list_file(rt, table, 0, 10, 0, 1, b"wrong.list");
 }
 
-fn main() {
-    let pairs = os::arg_count() / 2;
+fn main(rt: HostRuntime) {
+    let pairs = argument_count(&rt) / 2;
     let mut k = 0;
     while k < pairs {
-        play_arguments(2 * k + 1, 2 * k + 2);
+        play_arguments(&rt, 2 * k + 1, 2 * k + 2);
         k += 1;
     }
-    list_files();
+    list_files(&rt);
 }
