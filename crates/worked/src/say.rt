@@ -1,6 +1,5 @@
 // What the program prints.
 ghost use Rattle.std.specs.Prelude.{◌≡◌, ◌≤◌};
-ghost use denote.Ref.{at_last};
 ghost use Rattle.line_log.specs.Log.{log_label, placed};
 ghost use Rattle.worked.specs.Script.{first_line};
 
@@ -19,7 +18,7 @@ fn say_number(out: &impl Print, n: usize) {
 
 // The label that the first line of a script means.
 fn label_of<'a>(table: &'a [u8], script: &'a [u8]) -> &'a [u8]
-    ensures { placed result ≡ log_label table.entry (at_last script.entry (first_line script.now)) }
+    ensures { placed result ≡ log_label table.entry (record script.entry { now = first_line script.now }) }
 {
     let end = find(script, 0x0D);
     log_label(table, &script[..end])

@@ -2,8 +2,7 @@
 use Rattle.std.specs.Prelude.{◌≡◌, List, ℕ, suc, ◌+◌, ◌≤◌, ◌<◌, length, take}
 use Rattle.std.proofs.Math.Path.{refl, sym}
 use Rattle.std.proofs.Common.{◌∙◌, add-one, arith, length-take, take_all, Fits}
-use Rattle.std.specs.Borrow.{GName}
-use denote.Ref.{MutBor, at_last}
+use Rattle.std.specs.Borrow.{Bor}
 use Rattle.std.specs.Int.{w64}
 use Rattle.text.specs.Cut.{index_of}
 use Rattle.text.specs.Cut.Laws.{index_within}
@@ -47,12 +46,12 @@ module _ (bs : List ℕ) (end : ℕ) (e : end ≡ index_of 0x0D bs) where
   through-first = rw (add-one end, e) refl
 
 -- the label of the first line: the line lies where the script does
-pub label-first : (table script : MutBor (List ℕ)) (name : GName) (end b o : ℕ) (bs : List ℕ) → end ≡ index_of 0x0D script.now
-    → record { block = b; at = o; bytes = bs } ≡ log_label table (record { ref_ptr = script.ref_ptr; ghost_name = name; now = take end script.now })
-    → record { block = b; at = o; bytes = bs } ≡ log_label table (at_last script (first_line script.now))
-label-first table script name end b o bs e h =
+pub label-first : (table script : Bor (List ℕ)) (end b o : ℕ) (bs : List ℕ) → end ≡ index_of 0x0D script.now
+    → record { block = b; at = o; bytes = bs } ≡ log_label table (record { ref_ptr = script.ref_ptr; now = take end script.now })
+    → record { block = b; at = o; bytes = bs } ≡ log_label table (record script { now = first_line script.now })
+label-first table script end b o bs e h =
     h
-    ∙ label-alike table (record { ref_ptr = script.ref_ptr; ghost_name = name; now = take end script.now }) (at_last script (first_line script.now)) refl
+    ∙ label-alike table (record { ref_ptr = script.ref_ptr; now = take end script.now }) (record script { now = first_line script.now }) refl
     (line_first script.now end e)
 
 pub ruleset cutting = (cut_within, cut_counts, behind_fits, behind_counts, through-all, through-first, label-first)

@@ -7,10 +7,10 @@ use Rattle.worked.specs.Script.Playing.{Playing, playing}
 use Rattle.worked.proofs.play.play_lines.Statement.{statement}
 use Rattle.worked.proofs.play.play_lines.Tie as tie
 
-abbrev invariant-loop : tie.invariant-loop
+abbrev invariant-loop : tie.invariant-loop-at
 invariant-loop table values₀ script port₀ at₀ right₀ values port at right = Playing (room_of table) values₀ script values port at right
 
-abbrev decreases-loop : tie.decreases-loop
+abbrev decreases-loop : tie.decreases-loop-at
 decreases-loop table values₀ script port₀ at₀ right₀ values port at right = length script - at
 
 pub play_lines_spec : {M : Type 1} → statement M
