@@ -1,7 +1,7 @@
 -- Rules for the code that reads commands and writes what they tell.
 use Rattle.std.specs.Prelude.{◌≡◌, List, ℕ, ◌≤◌, ℤ, take}
 use Rattle.std.proofs.Math.Path.{refl}
-use Rattle.std.proofs.Common.{sym, ◌∙◌, arith}
+use Rattle.std.proofs.Common.{◌∙◌, arith}
 use Rattle.std.proofs.Math.ListN.{length}
 use Rattle.text.specs.Cut.Part.{part-counts}
 use Rattle.values.specs.Room.{Room}
