@@ -7,18 +7,18 @@ use Rattle.worked.specs.Script.Playing.{Playing, playing}
 use Rattle.worked.proofs.play.play_lines.Statement.{statement}
 use Rattle.worked.proofs.play.play_lines.Tie as tie
 
-abbrev invariant-loop : tie.invariant-loop-at
-invariant-loop table values₀ script port₀ at₀ right₀ values port at right = Playing (room_of table) values₀ script values port at right
+abbrev invariant-loop-at : tie.invariant-loop-at
+invariant-loop-at table values₀ script port₀ at₀ right₀ values port at right = Playing (room_of table) values₀ script values port at right
 
-abbrev decreases-loop : tie.decreases-loop-at
-decreases-loop table values₀ script port₀ at₀ right₀ values port at right = length script - at
+abbrev decreases-loop-at : tie.decreases-loop-at
+decreases-loop-at table values₀ script port₀ at₀ right₀ values port at right = length script - at
 
 pub play_lines_spec : {M : Type 1} → statement M
 play_lines_spec =
     tie.close
     (tie.spec
-    invariant-loop
-    decreases-loop
+    invariant-loop-at
+    decreases-loop-at
     (λ c κs. search (playing, rules))  -- fresh-requires
     (λ c. search (playing, rules))  -- loop-holds
     (λ c. search (playing, rules))  -- sub-play-line
