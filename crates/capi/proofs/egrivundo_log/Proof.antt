@@ -8,12 +8,12 @@ pub egrivundo_log_spec : {M : Type 1} → statement M
 egrivundo_log_spec =
     tie.close
     (tie.spec
-    (λ c κs. search (telling, rules))  -- log-part-requires
-    (λ c. search (telling, rules))  -- enum-known-start
-    (λ c. search (telling, rules))  -- sub-t10
-    (λ c. search (telling, rules))  -- enum-known-start-2
-    (λ c. search (telling, rules))  -- sub-t13
-    (λ c. search (telling, rules))  -- enum-told
-    (λ c. search (telling, rules))  -- returns
-    (λ c. search (telling, rules))  -- returns-2
-    (λ c. search (telling, rules)))  -- returns-3
+    (λ c κs. search (telling, rules))  -- log_part-requires
+    (λ c. search (telling, rules))  -- enum_known-start
+    (λ c. search (telling, rules))  -- overflow_sub-told
+    (λ c. search (telling, rules))  -- enum_known-start-in-Line-1
+    (λ c. search (telling, rules))  -- overflow_sub-told-in-Line
+    (λ c. search (telling, rules))  -- enum_told-1
+    (λ c. search (telling, rules))  -- returns-in-Table
+    (λ c. search (telling, rules))  -- returns-in-Line
+    (λ c. search (telling, rules)))  -- returns-in-Nothing

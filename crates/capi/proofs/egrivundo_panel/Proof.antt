@@ -8,7 +8,7 @@ pub egrivundo_panel_spec : {M : Type 1} → statement M
 egrivundo_panel_spec =
     tie.close
     (tie.spec
-    (λ c κs. search rules)  -- change-requires
-    (λ c. search rules)  -- same-length
-    (λ c. search rules)  -- same-length-2
+    (λ c κs. search rules)  -- change-changed-requires
+    (λ c. search rules)  -- shape_of-values
+    (λ c. search rules)  -- shape_of-reply
     (λ c. search (panel-told, rules)))  -- returns

@@ -8,18 +8,18 @@ pub egrivundo_port_spec : {M : Type 1} → statement M
 egrivundo_port_spec =
     tie.close
     (tie.spec
-    (λ c κs. search (calling, rules))  -- port-of-requires
-    (λ c κs. search (calling, rules))  -- take-requires
-    (λ c κs. search (calling, rules))  -- fault-numbers-requires
-    (λ c. search (calling, rules))  -- array-read-t21
-    (λ c. search (calling, rules))  -- array-read-t24
-    (λ c. search (calling, rules))  -- same-length
-    (λ c. search (calling, rules))  -- same-length-2
-    (λ c. search (calling, rules))  -- returns
+    (λ c κs. search (calling, rules))  -- port_of-requires
+    (λ c κs. search (calling, rules))  -- take-called-requires
+    (λ c κs. search (calling, rules))  -- fault_numbers-fault-requires
+    (λ c. search (calling, rules))  -- bounds-fault-0
+    (λ c. search (calling, rules))  -- bounds-fault-1
+    (λ c. search (calling, rules))  -- shape_of-values-then-called-ne0
+    (λ c. search (calling, rules))  -- shape_of-reply-then-called-ne0
+    (λ c. search (calling, rules))  -- returns-then-called-ne0
     (λ c κs. search (calling, rules))  -- store-requires
-    (λ c. search (calling, rules))  -- same-length-3
-    (λ c. search (calling, rules))  -- same-length-4
-    (λ c. search (calling, rules))  -- returns-2
-    (λ c. search (calling, rules))  -- same-length-5
-    (λ c. search (calling, rules))  -- same-length-6
-    (λ c. search (calling, rules)))  -- returns-3
+    (λ c. search (calling, rules))  -- shape_of-values-then-given-ne0
+    (λ c. search (calling, rules))  -- shape_of-reply-then-given-ne0
+    (λ c. search (calling, rules))  -- returns-then-given-ne0
+    (λ c. search (calling, rules))  -- shape_of-values
+    (λ c. search (calling, rules))  -- shape_of-reply
+    (λ c. search (calling, rules)))  -- returns

@@ -8,5 +8,5 @@ pub egrivundo_restore_size_spec : {M : Type 1} → statement M
 egrivundo_restore_size_spec =
     tie.close
     (tie.spec
-    (λ c κs. search rules)  -- restore-size-requires
+    (λ c κs. search rules)  -- restore_size-sized-requires
     (λ c. search (size_told_lem, rules)))  -- returns

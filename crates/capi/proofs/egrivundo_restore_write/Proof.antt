@@ -8,6 +8,6 @@ pub egrivundo_restore_write_spec : {M : Type 1} → statement M
 egrivundo_restore_write_spec =
     tie.close
     (tie.spec
-    (λ c κs. search rules)  -- restore-write-requires
-    (λ c. search rules)  -- same-length
+    (λ c κs. search rules)  -- restore_write-restored-requires
+    (λ c. search rules)  -- shape_of-list
     (λ c. search (restore-told, rules)))  -- returns

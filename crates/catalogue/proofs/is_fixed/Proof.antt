@@ -8,5 +8,5 @@ pub is_fixed_spec : {M : Type 1} → statement M
 is_fixed_spec =
     tie.close
     (tie.spec
-    (λ c. search (kinds, rules))  -- returns
-    (λ c. search (kinds, rules)))  -- returns-2
+    (λ c. search (kinds, rules))  -- returns-then-kind-lt1
+    (λ c. search (kinds, rules)))  -- returns

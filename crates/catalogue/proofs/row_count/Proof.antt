@@ -8,12 +8,12 @@ pub row_count_spec : {M : Type 1} → statement M
 row_count_spec =
     tie.close
     (tie.spec
-    (λ c κs. search (counting, rules))  -- is-fixed-requires
-    (λ c κs. search (counting, rules))  -- fixed-count-requires
-    (λ c. search (counting, rules))  -- returns
-    (λ c. search (counting, rules))  -- cast-result
-    (λ c. search (counting, rules))  -- mul-result
-    (λ c. search (counting, rules))  -- cast-result-2
-    (λ c. search (counting, rules))  -- mul-result-2
-    (λ c. search (counting, rules))  -- add-result
-    (λ c. search (counting, rules)))  -- returns-2
+    (λ c κs. search (counting, rules))  -- is_fixed-requires
+    (λ c κs. search (counting, rules))  -- fixed_count-requires
+    (λ c. search (counting, rules))  -- returns-then-is_fixed
+    (λ c. search (counting, rules))  -- overflow_cast-result
+    (λ c. search (counting, rules))  -- overflow_mul-result
+    (λ c. search (counting, rules))  -- overflow_cast-result-2
+    (λ c. search (counting, rules))  -- overflow_mul-result-2
+    (λ c. search (counting, rules))  -- overflow_add-result
+    (λ c. search (counting, rules)))  -- returns

@@ -8,14 +8,14 @@ pub change_spec : {M : Type 1} → statement M
 change_spec =
     tie.close
     (tie.spec
-    (λ c κs. search (calling, rules))  -- check-requires
-    (λ c. search (calling, rules))  -- returns
-    (λ c κs. search (calling, rules))  -- all-rows-requires
-    (λ c κs. search (calling, rules))  -- values-number-requires
-    (λ c. search (calling, rules))  -- same-length
-    (λ c. search (calling, rules))  -- returns-2
-    (λ c κs. search (calling, rules))  -- by-row-requires
-    (λ c κs. search (calling, rules))  -- change-found-requires
-    (λ c. search (calling, rules))  -- same-length-2
-    (λ c. search (calling, rules))  -- same-length-3
-    (λ c. search (calling, rules)))  -- returns-3
+    (λ c κs. search (calling, rules))  -- check-of_table-requires
+    (λ c. search (calling, rules))  -- returns-then-of_table-ne0
+    (λ c κs. search (calling, rules))  -- all_rows-rows-requires
+    (λ c κs. search (calling, rules))  -- values_number-of_values-requires
+    (λ c. search (calling, rules))  -- shape_of-values-then-of_values-ne0
+    (λ c. search (calling, rules))  -- returns-then-of_values-ne0
+    (λ c κs. search (calling, rules))  -- by_row-found-requires
+    (λ c κs. search (calling, rules))  -- change_found-requires
+    (λ c. search (calling, rules))  -- shape_of-values
+    (λ c. search (calling, rules))  -- shape_of-reply
+    (λ c. search (calling, rules)))  -- returns

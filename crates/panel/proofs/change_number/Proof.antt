@@ -8,10 +8,10 @@ pub change_number_spec : {M : Type 1} → statement M
 change_number_spec =
     tie.close
     (tie.spec
-    (λ c. search (numbering, rules))  -- enum-known-found
-    (λ c. search (numbering, rules))  -- returns
+    (λ c. search (numbering, rules))  -- enum_known-found
+    (λ c. search (numbering, rules))  -- returns-then-not-settable
     (λ c κs. search (numbering, rules))  -- permits-requires
-    (λ c. search (numbering, rules))  -- returns-2
-    (λ c. search (numbering, rules))  -- enum-told
-    (λ c. search (numbering, rules))  -- returns-3
-    (λ c. search (numbering, rules)))  -- returns-4
+    (λ c. search (numbering, rules))  -- returns-then-permits
+    (λ c. search (numbering, rules))  -- enum_told-1
+    (λ c. search (numbering, rules))  -- returns-else-permits
+    (λ c. search (numbering, rules)))  -- returns-in-Nothing

@@ -8,10 +8,10 @@ pub notify_spec : {M : Type 1} → statement M
 notify_spec =
     tie.close
     (tie.spec
-    (λ c. search (notifying, rules))  -- returns
-    (λ c. search (notifying, rules))  -- add-label
-    (λ c. search (notifying, rules))  -- shared-slice-read-if2
-    (λ c. search (notifying, rules))  -- returns-2
-    (λ c κs. search (notifying, rules))  -- put-get-requires
-    (λ c. search (notifying, rules))  -- same-length
-    (λ c. search (notifying, rules)))  -- returns-3
+    (λ c. search (notifying, rules))  -- returns-then-before-value
+    (λ c. search (notifying, rules))  -- overflow_add-label
+    (λ c. search (notifying, rules))  -- bounds-table-label
+    (λ c. search (notifying, rules))  -- returns-then-table-label-ne35
+    (λ c κs. search (notifying, rules))  -- put_get-requires
+    (λ c. search (notifying, rules))  -- shape_of-reply
+    (λ c. search (notifying, rules)))  -- returns

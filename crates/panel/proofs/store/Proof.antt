@@ -8,10 +8,10 @@ pub store_spec : {M : Type 1} → statement M
 store_spec =
     tie.close
     (tie.spec
-    (λ c. search (storing, rules))  -- add-place
-    (λ c. search (storing, rules))  -- mul-before
-    (λ c. search (storing, rules))  -- slice-copy-out-before
-    (λ c. search (storing, rules))  -- mul-value
-    (λ c. search (storing, rules))  -- slice-set-from-value
-    (λ c. search (storing, rules))  -- same-length
+    (λ c. search (storing, rules))  -- overflow_add-place
+    (λ c. search (storing, rules))  -- offset_bounds-values-place
+    (λ c. search (storing, rules))  -- slice_copy_out-before
+    (λ c. search (storing, rules))  -- offset_bounds-values-place-2
+    (λ c. search (storing, rules))  -- bounds-values-place
+    (λ c. search (storing, rules))  -- shape_of-values
     (λ c. search (storing, rules)))  -- returns

@@ -8,11 +8,11 @@ pub failed_test_spec : {M : Type 1} → statement M
 failed_test_spec =
     tie.close
     (tie.spec
-    (λ c κs. search (testing, rules))  -- check-requires
-    (λ c. search (testing, rules))  -- returns
-    (λ c κs. search (testing, rules))  -- values-number-requires
-    (λ c. search (testing, rules))  -- returns-2
-    (λ c κs. search (testing, rules))  -- selection-number-requires
-    (λ c. search (testing, rules))  -- returns-3
-    (λ c κs. search (testing, rules))  -- wanted-number-requires
-    (λ c. search (testing, rules)))  -- returns-4
+    (λ c κs. search (testing, rules))  -- check-of_table-requires
+    (λ c. search (testing, rules))  -- returns-then-of_table-ne0
+    (λ c κs. search (testing, rules))  -- values_number-of_values-requires
+    (λ c. search (testing, rules))  -- returns-then-of_values-ne0
+    (λ c κs. search (testing, rules))  -- selection_number-of_selection-requires
+    (λ c. search (testing, rules))  -- returns-then-of_selection-ne0
+    (λ c κs. search (testing, rules))  -- wanted_number-requires
+    (λ c. search (testing, rules)))  -- returns

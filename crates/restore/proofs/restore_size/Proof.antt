@@ -7,6 +7,6 @@ pub restore_size_spec : {M : Type 1} → statement M
 restore_size_spec =
     tie.close
     (tie.spec
-    (λ c κs. search rules)  -- all-rows-requires
-    (λ c κs. search rules)  -- size-list-requires
+    (λ c κs. search rules)  -- all_rows-rows-requires
+    (λ c κs. search rules)  -- size_list-requires
     (λ c. search rules))  -- returns

@@ -8,13 +8,13 @@ pub restore_write_spec : {M : Type 1} → statement M
 restore_write_spec =
     tie.close
     (tie.spec
-    (λ c κs. search (writing_call, rules))  -- all-rows-requires
-    (λ c κs. search (writing_call, rules))  -- size-list-requires
-    (λ c. search (writing_call, rules))  -- returns
+    (λ c κs. search (writing_call, rules))  -- all_rows-rows-requires
+    (λ c κs. search (writing_call, rules))  -- size_list-sized-requires
+    (λ c. search (writing_call, rules))  -- returns-then-sized-gt0
     (λ c κs. search (writing_call, rules))  -- told-requires
-    (λ c. search (writing_call, rules))  -- returns-2
-    (λ c κs. search (writing_call, rules))  -- told-requires-2
-    (λ c. search (writing_call, rules))  -- returns-3
+    (λ c. search (writing_call, rules))  -- returns-then-list-sized
+    (λ c κs. search (writing_call, rules))  -- told-requires-then-sized-eq0
+    (λ c. search (writing_call, rules))  -- returns-then-sized-eq0
     (λ c κs. search (writing_call, rules))  -- write-requires
-    (λ c. search (writing_call, rules))  -- same-length
-    (λ c. search (writing_call, rules)))  -- returns-4
+    (λ c. search (writing_call, rules))  -- shape_of-list
+    (λ c. search (writing_call, rules)))  -- returns

@@ -8,6 +8,6 @@ pub selection_number_spec : {M : Type 1} → statement M
 selection_number_spec =
     tie.close
     (tie.spec
-    (λ c κs. search (wish_testing, rules))  -- selection-right-requires
-    (λ c. search (wish_testing, rules))  -- returns
-    (λ c. search (wish_testing, rules)))  -- returns-2
+    (λ c κs. search (wish_testing, rules))  -- selection_right-requires
+    (λ c. search (wish_testing, rules))  -- returns-then-selection_right
+    (λ c. search (wish_testing, rules)))  -- returns

@@ -9,9 +9,9 @@ size_changes_spec =
     tie.close
     (tie.spec
     (λ c κs. search (measuring_call, rules))  -- measure-requires
-    (λ c. search (measuring_call, rules))  -- enum-told
+    (λ c. search (measuring_call, rules))  -- enum_told-1
     (λ c κs. search (measuring_call, rules))  -- told-requires
-    (λ c. search (measuring_call, rules))  -- enum-known-bytes
-    (λ c κs. search (measuring_call, rules))  -- told-requires-2
-    (λ c. search (measuring_call, rules))  -- returns
-    (λ c. search (measuring_call, rules)))  -- returns-2
+    (λ c. search (measuring_call, rules))  -- enum_known-bytes
+    (λ c κs. search (measuring_call, rules))  -- told-requires-in-Within
+    (λ c. search (measuring_call, rules))  -- returns-in-Beyond
+    (λ c. search (measuring_call, rules)))  -- returns-in-Within

@@ -8,8 +8,8 @@ pub size_list_spec : {M : Type 1} → statement M
 size_list_spec =
     tie.close
     (tie.spec
-    (λ c κs. search (testing_call, rules))  -- failed-test-requires
+    (λ c κs. search (testing_call, rules))  -- failed_test-number-requires
     (λ c κs. search (testing_call, rules))  -- told-requires
-    (λ c. search (testing_call, rules))  -- returns
-    (λ c κs. search (testing_call, rules))  -- size-changes-requires
-    (λ c. search (testing_call, rules)))  -- returns-2
+    (λ c. search (testing_call, rules))  -- returns-then-number-ne0
+    (λ c κs. search (testing_call, rules))  -- size_changes-requires
+    (λ c. search (testing_call, rules)))  -- returns

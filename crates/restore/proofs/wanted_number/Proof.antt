@@ -8,6 +8,6 @@ pub wanted_number_spec : {M : Type 1} → statement M
 wanted_number_spec =
     tie.close
     (tie.spec
-    (λ c κs. search (wish_testing, rules))  -- wanted-right-requires
-    (λ c. search (wish_testing, rules))  -- returns
-    (λ c. search (wish_testing, rules)))  -- returns-2
+    (λ c κs. search (wish_testing, rules))  -- wanted_right-requires
+    (λ c. search (wish_testing, rules))  -- returns-then-not-wanted_right
+    (λ c. search (wish_testing, rules)))  -- returns

@@ -20,22 +20,22 @@ are_sound_spec =
     (tie.spec
     invariant-loop-place
     decreases-loop-place
-    (λ c. search (fitting, walking, rules))  -- loop-holds
-    (λ c κs. search (fitting, walking, rules))  -- layout-at-requires
-    (λ c κs. search (fitting, walking, rules))  -- row-count-requires
-    (λ c. search (fitting, walking, rules))  -- sub-if1
-    (λ c. search (fitting, walking, rules))  -- returns
-    (λ c. search (fitting, walking, rules))  -- add-end
-    (λ c. search (fitting, walking, rules))  -- mul-module-fits
-    (λ c. search (fitting, walking, rules))  -- sub-module-fits
-    (λ c. search (fitting, walking, rules))  -- part-module-fits-start
-    (λ c. search (fitting, walking, rules))  -- part-module-fits-end
-    (λ c κs. search (fitting, walking, rules))  -- module-fits-requires
-    (λ c. search (fitting, walking, rules))  -- returns-2
-    (λ c. search (fitting, walking, rules))  -- add-number
-    (λ c. search (fitting, walking, rules))  -- add-place
-    (λ c κs. search (fitting, walking, rules))  -- body-length-requires
-    (λ c. search (fitting, walking, rules))  -- add-place-2
-    (λ c. search (fitting, walking, rules))  -- loop-less
-    (λ c. search (fitting, walking, rules))  -- loop-again
-    (λ c. search (fitting, walking, rules)))  -- returns-3
+    (λ c. search (fitting, walking, rules))  -- loop-place-init
+    (λ c κs. search (fitting, walking, rules))  -- layout_at-layout-requires
+    (λ c κs. search (fitting, walking, rules))  -- row_count-count-requires
+    (λ c. search (fitting, walking, rules))  -- overflow_sub-values
+    (λ c. search (fitting, walking, rules))  -- returns-then-values-first
+    (λ c. search (fitting, walking, rules))  -- overflow_add-end
+    (λ c. search (fitting, walking, rules))  -- offset_bounds-values-first
+    (λ c. search (fitting, walking, rules))  -- slice_bounds-module_fits-count
+    (λ c. search (fitting, walking, rules))  -- slice_bounds-module_fits-start
+    (λ c. search (fitting, walking, rules))  -- slice_bounds-module_fits-end
+    (λ c κs. search (fitting, walking, rules))  -- module_fits-requires
+    (λ c. search (fitting, walking, rules))  -- returns-then-not-module_fits
+    (λ c. search (fitting, walking, rules))  -- overflow_add-number
+    (λ c. search (fitting, walking, rules))  -- overflow_add-place
+    (λ c κs. search (fitting, walking, rules))  -- body_length-requires
+    (λ c. search (fitting, walking, rules))  -- overflow_add-place-in-loop-place
+    (λ c. search (fitting, walking, rules))  -- loop-place-smaller
+    (λ c. search (fitting, walking, rules))  -- loop-place-preserved
+    (λ c. search (fitting, walking, rules)))  -- returns

@@ -8,6 +8,6 @@ pub values_number_spec : {M : Type 1} → statement M
 values_number_spec =
     tie.close
     (tie.spec
-    (λ c κs. search (numbering, rules))  -- are-sound-requires
-    (λ c. search (numbering, rules))  -- returns
-    (λ c. search (numbering, rules)))  -- returns-2
+    (λ c κs. search (numbering, rules))  -- are_sound-requires
+    (λ c. search (numbering, rules))  -- returns-then-are_sound
+    (λ c. search (numbering, rules)))  -- returns

@@ -9,11 +9,11 @@ pub module_right_spec : {M : Type 1} → statement M
 module_right_spec =
     tie.close
     (tie.spec
-    (λ c. search (one_module, mixers, rules))  -- returns
-    (λ c κs. search (one_module, mixers, rules))  -- is-fixed-requires
-    (λ c κs. search (one_module, mixers, rules))  -- listed-fits-requires
-    (λ c. search (one_module, mixers, rules))  -- returns-2
-    (λ c. search (one_module, mixers, rules))  -- cast-mixer-fits
-    (λ c. search (one_module, mixers, rules))  -- cast-mixer-fits-2
-    (λ c κs. search (one_module, mixers, rules))  -- mixer-fits-requires
-    (λ c. search (one_module, mixers, rules)))  -- returns-3
+    (λ c. search (one_module, mixers, rules))  -- returns-then-selected-ne1
+    (λ c κs. search (one_module, mixers, rules))  -- is_fixed-requires
+    (λ c κs. search (one_module, mixers, rules))  -- listed_fits-requires
+    (λ c. search (one_module, mixers, rules))  -- returns-then-is_fixed
+    (λ c. search (one_module, mixers, rules))  -- overflow_cast-layout
+    (λ c. search (one_module, mixers, rules))  -- overflow_cast-layout-2
+    (λ c κs. search (one_module, mixers, rules))  -- mixer_fits-requires
+    (λ c. search (one_module, mixers, rules)))  -- returns

@@ -18,15 +18,15 @@ selection_right_spec =
     (tie.spec
     invariant-loop-place
     decreases-loop-place
-    (λ c. search (selecting, rules))  -- loop-holds
-    (λ c. search (selecting, rules))  -- returns
-    (λ c. search (selecting, rules))  -- shared-slice-read-if2
-    (λ c. search (selecting, rules))  -- returns-2
-    (λ c. search (selecting, rules))  -- shared-slice-read-kind
-    (λ c. search (selecting, rules))  -- add-number
-    (λ c. search (selecting, rules))  -- add-place
-    (λ c κs. search (selecting, rules))  -- body-length-requires
-    (λ c. search (selecting, rules))  -- add-place-2
-    (λ c. search (selecting, rules))  -- loop-less
-    (λ c. search (selecting, rules))  -- loop-again
-    (λ c. search (selecting, rules)))  -- returns-3
+    (λ c. search (selecting, rules))  -- loop-place-init
+    (λ c. search (selecting, rules))  -- returns-then-selection-number
+    (λ c. search (selecting, rules))  -- bounds-selection-number
+    (λ c. search (selecting, rules))  -- returns-then-selection-number-gt1
+    (λ c. search (selecting, rules))  -- bounds-table-place
+    (λ c. search (selecting, rules))  -- overflow_add-number
+    (λ c. search (selecting, rules))  -- overflow_add-place
+    (λ c κs. search (selecting, rules))  -- body_length-requires
+    (λ c. search (selecting, rules))  -- overflow_add-place-in-loop-place
+    (λ c. search (selecting, rules))  -- loop-place-smaller
+    (λ c. search (selecting, rules))  -- loop-place-preserved
+    (λ c. search (selecting, rules)))  -- returns

@@ -20,23 +20,23 @@ wanted_right_spec =
     (tie.spec
     invariant-loop-place
     decreases-loop-place
-    (λ c. search (wanting, walking, rules))  -- loop-holds
-    (λ c κs. search (wanting, walking, rules))  -- layout-at-requires
-    (λ c κs. search (wanting, walking, rules))  -- row-count-requires
-    (λ c. search (wanting, walking, rules))  -- sub-if1
-    (λ c. search (wanting, walking, rules))  -- returns
-    (λ c. search (wanting, walking, rules))  -- add-end
-    (λ c. search (wanting, walking, rules))  -- shared-slice-read-module-right
-    (λ c. search (wanting, walking, rules))  -- mul-module-right
-    (λ c. search (wanting, walking, rules))  -- sub-module-right
-    (λ c. search (wanting, walking, rules))  -- part-module-right-start
-    (λ c. search (wanting, walking, rules))  -- part-module-right-end
-    (λ c κs. search (wanting, walking, rules))  -- module-right-requires
-    (λ c. search (wanting, walking, rules))  -- returns-2
-    (λ c. search (wanting, walking, rules))  -- add-number
-    (λ c. search (wanting, walking, rules))  -- add-place
-    (λ c κs. search (wanting, walking, rules))  -- body-length-requires
-    (λ c. search (wanting, walking, rules))  -- add-place-2
-    (λ c. search (wanting, walking, rules))  -- loop-less
-    (λ c. search (wanting_on, walking, rules))  -- loop-again
-    (λ c. search (wanting, walking, rules)))  -- returns-3
+    (λ c. search (wanting, walking, rules))  -- loop-place-init
+    (λ c κs. search (wanting, walking, rules))  -- layout_at-layout-requires
+    (λ c κs. search (wanting, walking, rules))  -- row_count-count-requires
+    (λ c. search (wanting, walking, rules))  -- overflow_sub-wanted
+    (λ c. search (wanting, walking, rules))  -- returns-then-wanted-first
+    (λ c. search (wanting, walking, rules))  -- overflow_add-end
+    (λ c. search (wanting, walking, rules))  -- bounds-selection-number
+    (λ c. search (wanting, walking, rules))  -- offset_bounds-wanted-first
+    (λ c. search (wanting, walking, rules))  -- slice_bounds-module_right-count
+    (λ c. search (wanting, walking, rules))  -- slice_bounds-module_right-start
+    (λ c. search (wanting, walking, rules))  -- slice_bounds-module_right-end
+    (λ c κs. search (wanting, walking, rules))  -- module_right-requires
+    (λ c. search (wanting, walking, rules))  -- returns-then-not-module_right
+    (λ c. search (wanting, walking, rules))  -- overflow_add-number
+    (λ c. search (wanting, walking, rules))  -- overflow_add-place
+    (λ c κs. search (wanting, walking, rules))  -- body_length-requires
+    (λ c. search (wanting, walking, rules))  -- overflow_add-place-in-loop-place
+    (λ c. search (wanting, walking, rules))  -- loop-place-smaller
+    (λ c. search (wanting_on, walking, rules))  -- loop-place-preserved
+    (λ c. search (wanting, walking, rules)))  -- returns

@@ -8,9 +8,9 @@ pub connection_at_spec : {M : Type 1} → statement M
 connection_at_spec =
     tie.close
     (tie.spec
-    (λ c. search (taking, rules))  -- mul-start
-    (λ c. search (taking, rules))  -- add-port-part
-    (λ c κs. search (taking, rules))  -- port-part-requires
-    (λ c κs. search (taking, rules))  -- port-of-requires
-    (λ c. search (taking, rules))  -- shared-slice-read-t12
+    (λ c. search (taking, rules))  -- overflow_mul-start
+    (λ c. search (taking, rules))  -- overflow_add-start
+    (λ c κs. search (taking, rules))  -- port_part-part-requires
+    (λ c κs. search (taking, rules))  -- port_of-port-requires
+    (λ c. search (taking, rules))  -- bounds-row-start
     (λ c. search (taking, rules)))  -- returns

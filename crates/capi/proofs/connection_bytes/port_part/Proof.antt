@@ -8,10 +8,10 @@ pub port_part_spec : {M : Type 1} → statement M
 port_part_spec =
     tie.close
     (tie.spec
-    (λ c. search (taking, rules))  -- add-end
-    (λ c. search (taking, rules))  -- slice-aggregate-put-bytes
-    (λ c. search (taking, rules))  -- sub-put-bytes
-    (λ c. search (taking, rules))  -- part-put-bytes-start
-    (λ c. search (taking, rules))  -- part-put-bytes-end
-    (λ c κs. search (taking, rules))  -- put-bytes-requires
+    (λ c. search (taking, rules))  -- overflow_add-end
+    (λ c. search (taking, rules))  -- slice_bounds-put_bytes-end
+    (λ c. search (taking, rules))  -- slice_bounds-put_bytes-count
+    (λ c. search (taking, rules))  -- slice_bounds-put_bytes-start
+    (λ c. search (taking, rules))  -- slice_bounds-put_bytes-end-2
+    (λ c κs. search (taking, rules))  -- put_bytes-requires
     (λ c. search (taking, rules)))  -- returns

@@ -8,11 +8,11 @@ pub store_served_spec : {M : Type 1} → statement M
 store_served_spec =
     tie.close
     (tie.spec
-    (λ c. search (taking, rules))  -- mul-start
+    (λ c. search (taking, rules))  -- overflow_mul-at
     (λ c κs. search (taking, rules))  -- store-requires
-    (λ c. search (taking, rules))  -- slice-write-row
-    (λ c. search (taking, rules))  -- add-put-bytes
-    (λ c. search (taking, rules))  -- slice-aggregate-put-bytes
-    (λ c κs. search (taking, rules))  -- put-bytes-requires
-    (λ c. search (taking, rules))  -- same-length
+    (λ c. search (taking, rules))  -- bounds-row-at
+    (λ c. search (taking, rules))  -- overflow_add-at
+    (λ c. search (taking, rules))  -- slice_bounds-put_bytes-end
+    (λ c κs. search (taking, rules))  -- put_bytes-requires
+    (λ c. search (taking, rules))  -- shape_of-row
     (λ c. search (taking, rules)))  -- returns

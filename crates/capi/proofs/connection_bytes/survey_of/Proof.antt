@@ -17,15 +17,15 @@ survey_of_spec =
     (tie.spec
     invariant-loop-i
     decreases-loop-i
-    (λ c. search (looking, rules))  -- loop-holds
-    (λ c. search (looking, rules))  -- mul-start
-    (λ c. search (looking, rules))  -- shared-slice-read-t9
-    (λ c. search (looking, rules))  -- array-write-flags
-    (λ c. search (looking, rules))  -- add-count
-    (λ c. search (looking, rules))  -- shared-slice-read-count
+    (λ c. search (looking, rules))  -- loop-i-init
+    (λ c. search (looking, rules))  -- overflow_mul-start
+    (λ c. search (looking, rules))  -- bounds-row-start
+    (λ c. search (looking, rules))  -- bounds-flags-i
+    (λ c. search (looking, rules))  -- overflow_add-start
+    (λ c. search (looking, rules))  -- bounds-row-start-in-loop-i
     (λ c κs. search (looking, rules))  -- count-requires
-    (λ c κs. search (looking, rules))  -- still-few-requires
-    (λ c. search (looking, rules))  -- add-i
-    (λ c. search (looking, rules))  -- loop-less
-    (λ c. search (looking, rules))  -- loop-again
+    (λ c κs. search (looking, rules))  -- still_few-few-requires
+    (λ c. search (looking, rules))  -- overflow_add-i
+    (λ c. search (looking, rules))  -- loop-i-smaller
+    (λ c. search (looking, rules))  -- loop-i-preserved
     (λ c. search (looking, rules)))  -- returns

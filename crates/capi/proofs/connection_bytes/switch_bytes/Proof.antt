@@ -8,17 +8,17 @@ pub switch_bytes_spec : {M : Type 1} → statement M
 switch_bytes_spec =
     tie.close
     (tie.spec
-    (λ c. search (switching, rules))  -- returns
-    (λ c. search (switching, rules))  -- returns-2
-    (λ c. search (switching, rules))  -- mul-start
-    (λ c. search (switching, rules))  -- slice-read-is-open
-    (λ c κs. search (switching, rules))  -- is-change-requires
-    (λ c. search (switching, rules))  -- returns-3
-    (λ c κs. search (switching, rules))  -- flag-byte-requires
-    (λ c. search (switching, rules))  -- slice-write-row
-    (λ c. search (switching, rules))  -- add-row
-    (λ c. search (switching, rules))  -- slice-write-row-2
-    (λ c. search (switching, rules))  -- add-row-2
-    (λ c. search (switching, rules))  -- slice-write-row-3
-    (λ c. search (switching, rules))  -- same-length
-    (λ c. search (switching, rules)))  -- returns-4
+    (λ c. search (switching, rules))  -- returns-then-row-ne2144
+    (λ c. search (switching, rules))  -- returns-then-number-gt31
+    (λ c. search (switching, rules))  -- overflow_mul-start
+    (λ c. search (switching, rules))  -- bounds-row-start
+    (λ c κs. search (switching, rules))  -- is_change-requires
+    (λ c. search (switching, rules))  -- returns-then-not-is_change
+    (λ c κs. search (switching, rules))  -- flag_byte-requires
+    (λ c. search (switching, rules))  -- bounds-row-start-2
+    (λ c. search (switching, rules))  -- overflow_add-row
+    (λ c. search (switching, rules))  -- bounds-row-start-3
+    (λ c. search (switching, rules))  -- overflow_add-row-2
+    (λ c. search (switching, rules))  -- bounds-row-start-4
+    (λ c. search (switching, rules))  -- shape_of-row
+    (λ c. search (switching, rules)))  -- returns

@@ -8,13 +8,13 @@ pub cause_number_spec : {M : Type 1} → statement M
 cause_number_spec =
     tie.close
     (tie.spec
-    (λ c. search (cause_numbers, rules))  -- enum-told
-    (λ c. search (cause_numbers, rules))  -- enum-told-2
-    (λ c. search (cause_numbers, rules))  -- enum-told-3
-    (λ c. search (cause_numbers, rules))  -- enum-told-4
-    (λ c. search (cause_numbers, rules))  -- enum-told-5
-    (λ c. search (cause_numbers, rules))  -- returns
-    (λ c. search (cause_numbers, rules))  -- returns-2
-    (λ c. search (cause_numbers, rules))  -- returns-3
-    (λ c. search (cause_numbers, rules))  -- returns-4
-    (λ c. search (cause_numbers, rules)))  -- returns-5
+    (λ c. search (cause_numbers, rules))  -- enum_told-1
+    (λ c. search (cause_numbers, rules))  -- enum_told-in-NoVerb
+    (λ c. search (cause_numbers, rules))  -- enum_told-in-NoOpeningQuote
+    (λ c. search (cause_numbers, rules))  -- enum_told-in-NoClosingQuote
+    (λ c. search (cause_numbers, rules))  -- enum_told-in-NoEquals
+    (λ c. search (cause_numbers, rules))  -- returns-in-Overrun
+    (λ c. search (cause_numbers, rules))  -- returns-in-NoVerb
+    (λ c. search (cause_numbers, rules))  -- returns-in-NoOpeningQuote
+    (λ c. search (cause_numbers, rules))  -- returns-in-NoClosingQuote
+    (λ c. search (cause_numbers, rules)))  -- returns-in-NoEquals

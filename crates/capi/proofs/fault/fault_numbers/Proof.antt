@@ -8,8 +8,8 @@ pub fault_numbers_spec : {M : Type 1} → statement M
 fault_numbers_spec =
     tie.close
     (tie.spec
-    (λ c. search (numbering, rules))  -- enum-told
-    (λ c. search (numbering, rules))  -- enum-known-fault
-    (λ c κs. search (numbering, rules))  -- cause-number-requires
-    (λ c. search (numbering, rules))  -- returns
-    (λ c. search (numbering, rules)))  -- returns-2
+    (λ c. search (numbering, rules))  -- enum_told-1
+    (λ c. search (numbering, rules))  -- enum_known-fault
+    (λ c κs. search (numbering, rules))  -- cause_number-requires
+    (λ c. search (numbering, rules))  -- returns-in-Nothing
+    (λ c. search (numbering, rules)))  -- returns-in-At

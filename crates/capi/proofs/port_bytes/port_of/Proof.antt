@@ -8,12 +8,12 @@ pub port_of_spec : {M : Type 1} → statement M
 port_of_spec =
     tie.close
     (tie.spec
-    (λ c. search rules)  -- slice-aggregate-put-bytes
-    (λ c. search rules)  -- sub-put-bytes
-    (λ c. search rules)  -- part-put-bytes-start
-    (λ c. search rules)  -- part-put-bytes-end
-    (λ c κs. search rules)  -- put-bytes-requires
-    (λ c. search rules)  -- element-copy-out-count
+    (λ c. search rules)  -- slice_bounds-put_bytes-end
+    (λ c. search rules)  -- slice_bounds-put_bytes-count
+    (λ c. search rules)  -- slice_bounds-put_bytes-start
+    (λ c. search rules)  -- slice_bounds-put_bytes-end-2
+    (λ c κs. search rules)  -- put_bytes-requires
+    (λ c. search rules)  -- bounds-port-0
     (λ c κs. search rules)  -- count-requires
-    (λ c. search rules)  -- element-copy-out-t18
+    (λ c. search rules)  -- bounds-port-1
     (λ c. search (port_said, rules)))  -- returns

@@ -8,10 +8,10 @@ pub store_spec : {M : Type 1} → statement M
 store_spec =
     tie.close
     (tie.spec
-    (λ c. search (storing, rules))  -- cast-bytes
-    (λ c. search (storing, rules))  -- slice-write-bytes
-    (λ c κs. search (storing, rules))  -- flag-byte-requires
-    (λ c. search (storing, rules))  -- slice-write-bytes-2
-    (λ c. search (storing, rules))  -- slice-aggregate-put-bytes
-    (λ c κs. search (storing, rules))  -- put-bytes-requires
+    (λ c. search (storing, rules))  -- overflow_cast-bytes
+    (λ c. search (storing, rules))  -- bounds-bytes-0
+    (λ c κs. search (storing, rules))  -- flag_byte-requires
+    (λ c. search (storing, rules))  -- bounds-bytes-1
+    (λ c. search (storing, rules))  -- slice_bounds-put_bytes-end
+    (λ c κs. search (storing, rules))  -- put_bytes-requires
     (λ c. search (storing, rules)))  -- returns

@@ -8,5 +8,5 @@ pub put_words_spec : {M : Type 1} → statement M
 put_words_spec =
     tie.close
     (tie.spec
-    (λ c κs. search (padding, rules))  -- put-bytes-requires
+    (λ c κs. search (padding, rules))  -- put_bytes-requires
     (λ c. search (padding, rules)))  -- returns

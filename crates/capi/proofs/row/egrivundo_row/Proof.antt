@@ -8,12 +8,12 @@ pub egrivundo_row_spec : {M : Type 1} → statement M
 egrivundo_row_spec =
     tie.close
     (tie.spec
-    (λ c κs. search (telling, rules))  -- is-sound-requires
-    (λ c. search (telling, rules))  -- returns
-    (λ c κs. search (telling, rules))  -- all-rows-requires
-    (λ c κs. search (telling, rules))  -- by-row-requires
-    (λ c. search (telling, rules))  -- enum-known-p
-    (λ c κs. search (telling, rules))  -- row-numbers-requires
-    (λ c. search (telling, rules))  -- enum-told
-    (λ c. search (telling, rules))  -- returns-2
-    (λ c. search (telling, rules)))  -- returns-3
+    (λ c κs. search (telling, rules))  -- is_sound-requires
+    (λ c. search (telling, rules))  -- returns-then-not-is_sound
+    (λ c κs. search (telling, rules))  -- all_rows-rows-requires
+    (λ c κs. search (telling, rules))  -- by_row-requires
+    (λ c. search (telling, rules))  -- enum_known-p
+    (λ c κs. search (telling, rules))  -- row_numbers-requires
+    (λ c. search (telling, rules))  -- enum_told-1
+    (λ c. search (telling, rules))  -- returns-in-At
+    (λ c. search (telling, rules)))  -- returns-in-Nothing

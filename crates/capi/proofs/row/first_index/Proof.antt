@@ -8,9 +8,9 @@ pub first_index_spec : {M : Type 1} → statement M
 first_index_spec =
     tie.close
     (tie.spec
-    (λ c. search (indexing, rules))  -- enum-known-indices
-    (λ c. search (indexing, rules))  -- cast-result
-    (λ c. search (indexing, rules))  -- enum-known-indices-2
-    (λ c. search (indexing, rules))  -- cast-result-2
-    (λ c. search (indexing, rules))  -- returns
-    (λ c. search (indexing, rules)))  -- returns-2
+    (λ c. search (indexing, rules))  -- enum_known-indices
+    (λ c. search (indexing, rules))  -- overflow_cast-result
+    (λ c. search (indexing, rules))  -- enum_known-indices-in-TwoGroups-1
+    (λ c. search (indexing, rules))  -- overflow_cast-result-in-TwoGroups
+    (λ c. search (indexing, rules))  -- returns-in-OneGroup
+    (λ c. search (indexing, rules)))  -- returns-in-TwoGroups

@@ -8,11 +8,11 @@ pub kind_number_spec : {M : Type 1} → statement M
 kind_number_spec =
     tie.close
     (tie.spec
-    (λ c. search (kinds, rules))  -- enum-told
-    (λ c. search (kinds, rules))  -- enum-told-2
-    (λ c. search (kinds, rules))  -- enum-told-3
-    (λ c. search (kinds, rules))  -- enum-told-4
-    (λ c. search (kinds, rules))  -- returns
-    (λ c. search (kinds, rules))  -- returns-2
-    (λ c. search (kinds, rules))  -- returns-3
-    (λ c. search (kinds, rules)))  -- returns-4
+    (λ c. search (kinds, rules))  -- enum_told-1
+    (λ c. search (kinds, rules))  -- enum_told-in-Switch
+    (λ c. search (kinds, rules))  -- enum_told-in-Number
+    (λ c. search (kinds, rules))  -- enum_told-in-Word
+    (λ c. search (kinds, rules))  -- returns-in-Level
+    (λ c. search (kinds, rules))  -- returns-in-Switch
+    (λ c. search (kinds, rules))  -- returns-in-Number
+    (λ c. search (kinds, rules)))  -- returns-in-Word

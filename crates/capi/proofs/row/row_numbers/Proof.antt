@@ -8,9 +8,9 @@ pub row_numbers_spec : {M : Type 1} → statement M
 row_numbers_spec =
     tie.close
     (tie.spec
-    (λ c κs. search (numbering, rules))  -- first-index-requires
-    (λ c κs. search (numbering, rules))  -- second-index-requires
-    (λ c κs. search (numbering, rules))  -- kind-number-requires
-    (λ c. search (numbering, rules))  -- cast-step
-    (λ c. search (numbering, rules))  -- returns
-    (λ c. search (numbering, rules)))  -- returns-2
+    (λ c κs. search (numbering, rules))  -- first_index-first-requires
+    (λ c κs. search (numbering, rules))  -- second_index-second-requires
+    (λ c κs. search (numbering, rules))  -- kind_number-number-requires
+    (λ c. search (numbering, rules))  -- overflow_cast-step
+    (λ c. search (numbering, rules))  -- returns-then-row
+    (λ c. search (numbering, rules)))  -- returns

@@ -8,8 +8,8 @@ pub second_index_spec : {M : Type 1} → statement M
 second_index_spec =
     tie.close
     (tie.spec
-    (λ c. search (indexing, rules))  -- enum-told
-    (λ c. search (indexing, rules))  -- enum-known-indices
-    (λ c. search (indexing, rules))  -- cast-result
-    (λ c. search (indexing, rules))  -- returns
-    (λ c. search (indexing, rules)))  -- returns-2
+    (λ c. search (indexing, rules))  -- enum_told-1
+    (λ c. search (indexing, rules))  -- enum_known-indices
+    (λ c. search (indexing, rules))  -- overflow_cast-result
+    (λ c. search (indexing, rules))  -- returns-in-OneGroup
+    (λ c. search (indexing, rules)))  -- returns-in-TwoGroups

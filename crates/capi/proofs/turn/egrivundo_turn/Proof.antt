@@ -8,19 +8,19 @@ pub egrivundo_turn_spec : {M : Type 1} → statement M
 egrivundo_turn_spec =
     tie.close
     (tie.spec
-    (λ c. search (turning, rules))  -- returns
-    (λ c κs. search (turning, rules))  -- turn-picked-requires
-    (λ c. search (turning, rules))  -- enum-told
-    (λ c. search (turning, rules))  -- enum-known-served
-    (λ c κs. search (turning, rules))  -- fault-numbers-requires
-    (λ c. search (turning, rules))  -- array-read-t37
-    (λ c. search (turning, rules))  -- array-read-t40
-    (λ c κs. search (turning, rules))  -- store-served-requires
-    (λ c. search (turning, rules))  -- same-length
-    (λ c. search (turning, rules))  -- same-length-2
-    (λ c. search (turning, rules))  -- same-length-3
-    (λ c. search (turning, rules))  -- returns-2
-    (λ c. search (turning, rules))  -- same-length-4
-    (λ c. search (turning, rules))  -- same-length-5
-    (λ c. search (turning, rules))  -- same-length-6
-    (λ c. search (turning, rules)))  -- returns-3
+    (λ c. search (turning, rules))  -- returns-then-row-ne2144
+    (λ c κs. search (turning, rules))  -- turn_picked-done-requires
+    (λ c. search (turning, rules))  -- enum_told-1
+    (λ c. search (turning, rules))  -- enum_known-served
+    (λ c κs. search (turning, rules))  -- fault_numbers-fault-requires
+    (λ c. search (turning, rules))  -- bounds-fault-0
+    (λ c. search (turning, rules))  -- bounds-fault-1
+    (λ c κs. search (turning, rules))  -- store_served-requires
+    (λ c. search (turning, rules))  -- shape_of-values-in-Nobody
+    (λ c. search (turning, rules))  -- shape_of-row-in-Nobody
+    (λ c. search (turning, rules))  -- shape_of-reply-in-Nobody
+    (λ c. search (turning, rules))  -- returns-in-Nobody
+    (λ c. search (turning, rules))  -- shape_of-values-in-One
+    (λ c. search (turning, rules))  -- shape_of-row-in-One
+    (λ c. search (turning, rules))  -- shape_of-reply-in-One
+    (λ c. search (turning, rules)))  -- returns-in-One

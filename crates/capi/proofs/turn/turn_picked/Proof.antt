@@ -8,10 +8,10 @@ pub turn_picked_spec : {M : Type 1} → statement M
 turn_picked_spec =
     tie.close
     (tie.spec
-    (λ c κs. search (picking, rules))  -- survey-of-requires
-    (λ c κs. search (picking, rules))  -- pick-requires
-    (λ c κs. search (picking, rules))  -- connection-at-requires
-    (λ c κs. search (picking, rules))  -- turn-one-requires
-    (λ c. search (picking, rules))  -- same-length
-    (λ c. search (picking, rules))  -- same-length-2
+    (λ c κs. search (picking, rules))  -- survey_of-survey-requires
+    (λ c κs. search (picking, rules))  -- pick-number-requires
+    (λ c κs. search (picking, rules))  -- connection_at-one-requires
+    (λ c κs. search (picking, rules))  -- turn_one-requires
+    (λ c. search (picking, rules))  -- shape_of-values
+    (λ c. search (picking, rules))  -- shape_of-reply
     (λ c. search (picking, rules)))  -- returns

@@ -8,11 +8,11 @@ pub egrivundo_starts_spec : {M : Type 1} → statement M
 egrivundo_starts_spec =
     tie.close
     (tie.spec
-    (λ c κs. search (starting, rules))  -- is-sound-requires
-    (λ c. search (starting, rules))  -- returns
-    (λ c κs. search (starting, rules))  -- parameter-count-requires
-    (λ c. search (starting, rules))  -- returns-2
-    (λ c κs. search (starting, rules))  -- all-rows-requires
-    (λ c κs. search (starting, rules))  -- fill-starts-requires
-    (λ c. search (starting, rules))  -- same-length
-    (λ c. search (starting, rules)))  -- returns-3
+    (λ c κs. search (starting, rules))  -- is_sound-requires
+    (λ c. search (starting, rules))  -- returns-then-not-is_sound
+    (λ c κs. search (starting, rules))  -- parameter_count-count-requires
+    (λ c. search (starting, rules))  -- returns-then-values-count
+    (λ c κs. search (starting, rules))  -- all_rows-rows-requires
+    (λ c κs. search (starting, rules))  -- fill_starts-requires
+    (λ c. search (starting, rules))  -- shape_of-values
+    (λ c. search (starting, rules)))  -- returns

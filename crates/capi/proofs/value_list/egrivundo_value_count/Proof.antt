@@ -8,7 +8,7 @@ pub egrivundo_value_count_spec : {M : Type 1} → statement M
 egrivundo_value_count_spec =
     tie.close
     (tie.spec
-    (λ c κs. search (telling, rules))  -- is-sound-requires
-    (λ c. search (telling, rules))  -- returns
-    (λ c κs. search (telling, rules))  -- parameter-count-requires
-    (λ c. search (telling, rules)))  -- returns-2
+    (λ c κs. search (telling, rules))  -- is_sound-requires
+    (λ c. search (telling, rules))  -- returns-then-not-is_sound
+    (λ c κs. search (telling, rules))  -- parameter_count-count-requires
+    (λ c. search (telling, rules)))  -- returns

@@ -8,7 +8,7 @@ pub listed_row_spec : {M : Type 1} → statement M
 listed_row_spec =
     tie.close
     (tie.spec
-    (λ c κs. search (running, rules))  -- first-row-requires
-    (λ c. search (running, rules))  -- add-row-at
-    (λ c κs. search (running, rules))  -- row-at-requires
+    (λ c κs. search (running, rules))  -- first_row-requires
+    (λ c. search (running, rules))  -- overflow_add-first_row
+    (λ c κs. search (running, rules))  -- row_at-requires
     (λ c. search (running, rules)))  -- returns

@@ -9,9 +9,9 @@ pub number_at_spec : {M : Type 1} → statement M
 number_at_spec =
     tie.close
     (tie.spec
-    (λ c. omega (arith, row_inside _ c.requires.1))  -- mul-result
-    (λ c. search (reading, rules))  -- mul-result-2
-    (λ c. search (reading, rules))  -- index-1-result
-    (λ c. search (reading, rules))  -- index-2-result
-    (λ c. search (reading, rules))  -- cast-result
+    (λ c. omega (arith, row_inside _ c.requires.1))  -- offset_bounds-rows-n
+    (λ c. search (reading, rules))  -- offset_bounds-rows-j
+    (λ c. search (reading, rules))  -- bounds-rows-n
+    (λ c. search (reading, rules))  -- bounds-rows-j
+    (λ c. search (reading, rules))  -- overflow_cast-result
     (λ c. search (reading, rules)))  -- returns

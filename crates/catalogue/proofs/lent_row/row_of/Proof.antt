@@ -8,10 +8,10 @@ pub row_of_spec : {M : Type 1} → statement M
 row_of_spec =
     tie.close
     (tie.spec
-    (λ c κs. search (taking, rules))  -- is-fixed-requires
-    (λ c κs. search (taking, rules))  -- listed-row-requires
-    (λ c. search (taking, rules))  -- returns
-    (λ c. search (taking, rules))  -- cast-mixer-row
-    (λ c. search (taking, rules))  -- cast-mixer-row-2
-    (λ c κs. search (taking, rules))  -- mixer-row-requires
-    (λ c. search (taking, rules)))  -- returns-2
+    (λ c κs. search (taking, rules))  -- is_fixed-requires
+    (λ c κs. search (taking, rules))  -- listed_row-requires
+    (λ c. search (taking, rules))  -- returns-then-is_fixed
+    (λ c. search (taking, rules))  -- overflow_cast-layout
+    (λ c. search (taking, rules))  -- overflow_cast-layout-2
+    (λ c κs. search (taking, rules))  -- mixer_row-requires
+    (λ c. search (taking, rules)))  -- returns

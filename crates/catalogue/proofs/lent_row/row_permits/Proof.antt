@@ -9,14 +9,14 @@ pub row_permits_spec : {M : Type 1} → statement M
 row_permits_spec =
     tie.close
     (tie.spec
-    (λ c κs. search rules)  -- number-at-requires
-    (λ c. search (narrowing, rules))  -- returns
-    (λ c κs. search rules)  -- number-at-requires-2
-    (λ c. search (narrowing, rules))  -- returns-2
-    (λ c κs. search (naturals, rules))  -- natural-at-requires
-    (λ c. search (narrowing, rules))  -- cast-step
-    (λ c. search (narrowing, rules))  -- returns-3
-    (λ c. search (narrowing, rules))  -- sub-above
-    (λ c. (search (narrowing, rules), search (narrowing, rules)))  -- cast-above
-    (λ c. search (narrowing, rules))  -- rem-result
-    (λ c. search (narrowing, rules)))  -- returns-4
+    (λ c κs. search rules)  -- number_at-least-requires
+    (λ c. search (narrowing, rules))  -- returns-then-v-least
+    (λ c κs. search rules)  -- number_at-most-requires
+    (λ c. search (narrowing, rules))  -- returns-then-most-v
+    (λ c κs. search (naturals, rules))  -- natural_at-step-requires
+    (λ c. search (narrowing, rules))  -- overflow_cast-step
+    (λ c. search (narrowing, rules))  -- returns-then-step-eq1
+    (λ c. search (narrowing, rules))  -- overflow_sub-above
+    (λ c. (search (narrowing, rules), search (narrowing, rules)))  -- overflow_cast-above
+    (λ c. search (narrowing, rules))  -- nonzero_rem-result
+    (λ c. search (narrowing, rules)))  -- returns

@@ -8,9 +8,9 @@ pub channel_permits_spec : {M : Type 1} → statement M
 channel_permits_spec =
     tie.close
     (tie.spec
-    (λ c κs. search (judging_channels, rules))  -- level-row-requires
+    (λ c κs. search (judging_channels, rules))  -- level_row-requires
     (λ c κs. search (judging_channels, rules))  -- permits-requires
-    (λ c. search (judging_channels, rules))  -- returns
-    (λ c κs. search (judging_channels, rules))  -- mute-row-requires
+    (λ c. search (judging_channels, rules))  -- returns-then-k-eq0
+    (λ c κs. search (judging_channels, rules))  -- mute_row-requires
     (λ c κs. search (judging_channels, rules))  -- permits-requires-2
-    (λ c. search (judging_channels, rules)))  -- returns-2
+    (λ c. search (judging_channels, rules)))  -- returns

@@ -8,9 +8,9 @@ pub channel_row_spec : {M : Type 1} → statement M
 channel_row_spec =
     tie.close
     (tie.spec
-    (λ c. search (channels, rules))  -- add-level-row
-    (λ c κs. search (channels, rules))  -- level-row-requires
-    (λ c. search (channels, rules))  -- returns
-    (λ c. search (channels, rules))  -- add-mute-row
-    (λ c κs. search (channels, rules))  -- mute-row-requires
-    (λ c. search (channels, rules)))  -- returns-2
+    (λ c. search (channels, rules))  -- overflow_add-k
+    (λ c κs. search (channels, rules))  -- level_row-requires
+    (λ c. search (channels, rules))  -- returns-then-k-eq0
+    (λ c. search (channels, rules))  -- overflow_add-k-2
+    (λ c κs. search (channels, rules))  -- mute_row-requires
+    (λ c. search (channels, rules)))  -- returns

@@ -8,19 +8,19 @@ pub group_number_spec : {M : Type 1} → statement M
 group_number_spec =
     tie.close
     (tie.spec
-    (λ c. search rules)  -- mul-count
-    (λ c. search rules)  -- mul-count-2
-    (λ c. search rules)  -- add-count
-    (λ c. search rules)  -- mul-within
+    (λ c. search rules)  -- overflow_mul-count
+    (λ c. search rules)  -- overflow_mul-count-2
+    (λ c. search rules)  -- overflow_add-count
+    (λ c. search rules)  -- overflow_mul-inputs
     (λ c κs. search rules)  -- within-requires
-    (λ c. search rules)  -- mul-within-2
-    (λ c. search rules)  -- mul-within-3
-    (λ c κs. search rules)  -- within-requires-2
-    (λ c. search rules)  -- mul-within-4
-    (λ c. search rules)  -- mul-within-5
-    (λ c. search rules)  -- add-within
-    (λ c κs. search rules)  -- within-requires-3
-    (λ c. search (grouped, rules))  -- returns
-    (λ c. search (grouped, rules))  -- returns-2
-    (λ c. search (grouped, rules))  -- returns-3
-    (λ c. no_number _ _ _ _ (search rules) (search rules) (search rules)))  -- returns-4
+    (λ c. search rules)  -- overflow_mul-inputs-in-2
+    (λ c. search rules)  -- overflow_mul-outputs
+    (λ c κs. search rules)  -- within-requires-in-2
+    (λ c. search rules)  -- overflow_mul-inputs-in-3
+    (λ c. search rules)  -- overflow_mul-outputs-in-3
+    (λ c. search rules)  -- overflow_add-inputs
+    (λ c κs. search rules)  -- within-requires-in-3
+    (λ c. search (grouped, rules))  -- returns-in-1
+    (λ c. search (grouped, rules))  -- returns-in-2
+    (λ c. search (grouped, rules))  -- returns-in-3
+    (λ c. no_number _ _ _ _ (search rules) (search rules) (search rules)))  -- returns-in_default

@@ -8,11 +8,11 @@ pub mixer_number_spec : {M : Type 1} → statement M
 mixer_number_spec =
     tie.close
     (tie.spec
-    (λ c. search rules)  -- enum-told
-    (λ c. search rules)  -- mul-result
-    (λ c. search rules)  -- mul-result-2
-    (λ c. search rules)  -- add-result
-    (λ c. search rules)  -- enum-known-indices
-    (λ c κs. search rules)  -- group-number-requires
-    (λ c. search (numbering, rules))  -- returns
-    (λ c. search (numbering, rules)))  -- returns-2
+    (λ c. search rules)  -- enum_told-1
+    (λ c. search rules)  -- overflow_mul-result
+    (λ c. search rules)  -- overflow_mul-result-in-OneGroup
+    (λ c. search rules)  -- overflow_add-result
+    (λ c. search rules)  -- enum_known-indices
+    (λ c κs. search rules)  -- group_number-requires
+    (λ c. search (numbering, rules))  -- returns-in-OneGroup
+    (λ c. search (numbering, rules)))  -- returns-in-TwoGroups

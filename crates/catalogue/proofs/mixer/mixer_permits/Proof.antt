@@ -8,11 +8,11 @@ pub mixer_permits_spec : {M : Type 1} → statement M
 mixer_permits_spec =
     tie.close
     (tie.spec
-    (λ c. search (judging, rules))  -- mul-if1
-    (λ c. search (judging, rules))  -- mul-if1-2
-    (λ c. search (judging, rules))  -- add-if1
-    (λ c κs. search (judging, rules))  -- channel-permits-requires
-    (λ c. search (judging, rules))  -- returns
-    (λ c κs. search (judging, rules))  -- route-row-requires
+    (λ c. search (judging, rules))  -- overflow_mul-inputs
+    (λ c. search (judging, rules))  -- overflow_mul-outputs
+    (λ c. search (judging, rules))  -- overflow_add-inputs
+    (λ c κs. search (judging, rules))  -- channel_permits-requires
+    (λ c. search (judging, rules))  -- returns-then-k-inputs
+    (λ c κs. search (judging, rules))  -- route_row-requires
     (λ c κs. search (judging, rules))  -- permits-requires
-    (λ c. search (judging, rules)))  -- returns-2
+    (λ c. search (judging, rules)))  -- returns

@@ -8,15 +8,15 @@ pub mixer_row_spec : {M : Type 1} → statement M
 mixer_row_spec =
     tie.close
     (tie.spec
-    (λ c. search rules)  -- mul-if1
-    (λ c κs. search rules)  -- channel-row-requires
-    (λ c. search (mixing, rules))  -- returns
-    (λ c. search rules)  -- mul-behind
-    (λ c. search rules)  -- sub-behind
-    (λ c. search rules)  -- mul-if2
-    (λ c κs. search rules)  -- channel-row-requires-2
-    (λ c. search (mixing, rules))  -- returns-2
-    (λ c. search rules)  -- mul-route-row
-    (λ c. search rules)  -- sub-route-row
-    (λ c κs. search (mixing, rules))  -- route-row-requires
-    (λ c. search (mixing, rules)))  -- returns-3
+    (λ c. search rules)  -- overflow_mul-inputs
+    (λ c κs. search rules)  -- channel_row-requires
+    (λ c. search (mixing, rules))  -- returns-then-k-inputs
+    (λ c. search rules)  -- overflow_mul-behind
+    (λ c. search rules)  -- overflow_sub-behind
+    (λ c. search rules)  -- overflow_mul-outputs
+    (λ c κs. search rules)  -- channel_row-requires-then-behind-outputs
+    (λ c. search (mixing, rules))  -- returns-then-behind-outputs
+    (λ c. search rules)  -- overflow_mul-outputs-2
+    (λ c. search rules)  -- overflow_sub-behind-2
+    (λ c κs. search (mixing, rules))  -- route_row-requires
+    (λ c. search (mixing, rules)))  -- returns

@@ -8,8 +8,8 @@ pub route_row_spec : {M : Type 1} → statement M
 route_row_spec =
     tie.close
     (tie.spec
-    (λ c κs. search rules)  -- place-of-requires
-    (λ c. search (step-most, rules))  -- sub-every
-    (λ c. search rules)  -- add-t5
-    (λ c. search rules)  -- cast-t8
+    (λ c κs. search rules)  -- place_of-step-requires
+    (λ c. search (step-most, rules))  -- overflow_sub-every
+    (λ c. search rules)  -- overflow_add-result
+    (λ c. search rules)  -- overflow_cast-result
     (λ c. word_row _ _ _ (search rules)))  -- returns

@@ -8,7 +8,7 @@ pub within_spec : {M : Type 1} → statement M
 within_spec =
     tie.close
     (tie.spec
-    (λ c. search (finding, rules))  -- returns
-    (λ c. search (finding, rules))  -- returns-2
-    (λ c. search rules)  -- add-result
-    (λ c. search (finding, rules)))  -- returns-3
+    (λ c. search (finding, rules))  -- returns-then-j-lt1
+    (λ c. search (finding, rules))  -- returns-then-size-j
+    (λ c. search rules)  -- overflow_add-result
+    (λ c. search (finding, rules)))  -- returns

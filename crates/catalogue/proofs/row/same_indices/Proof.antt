@@ -8,14 +8,14 @@ pub same_indices_spec : {M : Type 1} → statement M
 same_indices_spec =
     tie.close
     (tie.spec
-    (λ c. search (comparing, rules))  -- enum-known-a
-    (λ c. search (comparing, rules))  -- enum-known-b
-    (λ c. search (comparing, rules))  -- enum-told
-    (λ c. search (comparing, rules))  -- enum-known-a-2
-    (λ c. search (comparing, rules))  -- enum-told-2
-    (λ c. search (comparing, rules))  -- enum-known-b-2
-    (λ c. search (comparing, rules))  -- returns
-    (λ c. search (comparing, rules))  -- returns-2
-    (λ c. search (comparing, rules))  -- returns-3
-    (λ c. search (comparing, rules))  -- returns-4
-    (λ c. search (comparing, rules)))  -- returns-5
+    (λ c. search (comparing, rules))  -- enum_known-a
+    (λ c. search (comparing, rules))  -- enum_known-b
+    (λ c. search (comparing, rules))  -- enum_told-1
+    (λ c. search (comparing, rules))  -- enum_known-a-in-TwoGroups-a
+    (λ c. search (comparing, rules))  -- enum_told-in-OneGroup-b-2
+    (λ c. search (comparing, rules))  -- enum_known-b-in-TwoGroups
+    (λ c. search (comparing, rules))  -- returns-then-x-z
+    (λ c. search (comparing, rules))  -- returns-in-OneGroup-b
+    (λ c. search (comparing, rules))  -- returns-in-TwoGroups-b
+    (λ c. search (comparing, rules))  -- returns-in-OneGroup-b-2
+    (λ c. search (comparing, rules)))  -- returns-else-x-z

@@ -8,5 +8,5 @@ pub fresh_row_spec : {M : Type 1} → statement M
 fresh_row_spec =
     tie.close
     (tie.spec
-    (λ c κs. search rules)  -- fresh-requires
+    (λ c κs. search rules)  -- fresh-port-requires
     (λ c. search (fresh-made, rules)))  -- returns

@@ -8,5 +8,5 @@ pub is_change_spec : {M : Type 1} → statement M
 is_change_spec =
     tie.close
     (tie.spec
-    (λ c. search (switching, rules))  -- returns
-    (λ c. search (switching, rules)))  -- returns-2
+    (λ c. search (switching, rules))  -- returns-then-want
+    (λ c. search (switching, rules)))  -- returns

@@ -8,5 +8,5 @@ pub is_place_spec : {M : Type 1} → statement M
 is_place_spec =
     tie.close
     (tie.spec
-    (λ c. search (places, rules))  -- returns
-    (λ c. search (places, rules)))  -- returns-2
+    (λ c. search (places, rules))  -- returns-then-count-ne32
+    (λ c. search (places, rules)))  -- returns

@@ -8,7 +8,7 @@ pub switch_one_spec : {M : Type 1} → statement M
 switch_one_spec =
     tie.close
     (tie.spec
-    (λ c κs. search (switching, rules))  -- is-change-requires
-    (λ c. search (switching, rules))  -- returns
-    (λ c κs. search (switching, rules))  -- fresh-requires
-    (λ c. search (switching, rules)))  -- returns-2
+    (λ c κs. search (switching, rules))  -- is_change-requires
+    (λ c. search (switching, rules))  -- returns-then-not-is_change
+    (λ c κs. search (switching, rules))  -- fresh-port-requires
+    (λ c. search (switching, rules)))  -- returns

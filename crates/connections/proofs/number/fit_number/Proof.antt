@@ -8,7 +8,7 @@ pub fit_number_spec : {M : Type 1} → statement M
 fit_number_spec =
     tie.close
     (tie.spec
-    (λ c κs. search (numbering, rules))  -- counts-right-requires
-    (λ c. search (numbering, rules))  -- returns
-    (λ c. search (numbering, rules))  -- returns-2
-    (λ c. search (numbering, rules)))  -- returns-3
+    (λ c κs. search (numbering, rules))  -- counts_right-requires
+    (λ c. search (numbering, rules))  -- returns-then-not-counts_right
+    (λ c. search (numbering, rules))  -- returns-then-last-gt31
+    (λ c. search (numbering, rules)))  -- returns

@@ -8,13 +8,13 @@ pub turn_number_spec : {M : Type 1} → statement M
 turn_number_spec =
     tie.close
     (tie.spec
-    (λ c κs. search (numbering, rules))  -- fit-number-requires
-    (λ c. search (numbering, rules))  -- returns
-    (λ c κs. search (numbering, rules))  -- check-requires
-    (λ c. search (numbering, rules))  -- returns-2
-    (λ c κs. search (numbering, rules))  -- values-number-requires
-    (λ c. search (numbering, rules))  -- returns-3
-    (λ c κs. search (numbering, rules))  -- reply-number-requires
-    (λ c. search (numbering, rules))  -- returns-4
-    (λ c κs. search (numbering, rules))  -- claims-number-requires
-    (λ c. search (numbering, rules)))  -- returns-5
+    (λ c κs. search (numbering, rules))  -- fit_number-of_fit-requires
+    (λ c. search (numbering, rules))  -- returns-then-of_fit-ne0
+    (λ c κs. search (numbering, rules))  -- check-of_table-requires
+    (λ c. search (numbering, rules))  -- returns-then-of_table-ne0
+    (λ c κs. search (numbering, rules))  -- values_number-of_values-requires
+    (λ c. search (numbering, rules))  -- returns-then-of_values-ne0
+    (λ c κs. search (numbering, rules))  -- reply_number-of_reply-requires
+    (λ c. search (numbering, rules))  -- returns-then-of_reply-ne0
+    (λ c κs. search (numbering, rules))  -- claims_number-requires
+    (λ c. search (numbering, rules)))  -- returns

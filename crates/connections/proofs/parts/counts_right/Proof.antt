@@ -18,12 +18,12 @@ counts_right_spec =
     (tie.spec
     invariant-loop-i
     decreases-loop-i
-    (λ c. search (taking, rules))  -- returns
-    (λ c. search (taking, rules))  -- loop-holds
-    (λ c. search (taking, rules))  -- mul-count
-    (λ c. search (taking, rules))  -- shared-slice-read-count
-    (λ c. search (taking, rules))  -- returns-2
-    (λ c. search (taking, rules))  -- add-i
-    (λ c. search (taking, rules))  -- loop-less
-    (λ c. search (taking, rules))  -- loop-again
-    (λ c. search (taking, rules)))  -- returns-3
+    (λ c. search (taking, rules))  -- returns-then-counts-ne32
+    (λ c. search (taking, rules))  -- loop-i-init
+    (λ c. search (taking, rules))  -- offset_bounds-counts-i
+    (λ c. search (taking, rules))  -- bounds-counts-i
+    (λ c. search (taking, rules))  -- returns-then-left-count
+    (λ c. search (taking, rules))  -- overflow_add-i
+    (λ c. search (taking, rules))  -- loop-i-smaller
+    (λ c. search (taking, rules))  -- loop-i-preserved
+    (λ c. search (taking, rules)))  -- returns

@@ -17,11 +17,11 @@ part_start_spec =
     (tie.spec
     invariant-loop-passed
     decreases-loop-passed
-    (λ c. search (adding, rules))  -- loop-holds
-    (λ c. search (adding, rules))  -- mul-at
-    (λ c. search (adding, rules))  -- shared-slice-read-at
-    (λ c. search (adding, rules))  -- add-at
-    (λ c. search (adding, rules))  -- add-passed
-    (λ c. search (adding, rules))  -- loop-less
-    (λ c. search (adding, rules))  -- loop-again
+    (λ c. search (adding, rules))  -- loop-passed-init
+    (λ c. search (adding, rules))  -- offset_bounds-counts-passed
+    (λ c. search (adding, rules))  -- bounds-counts-passed
+    (λ c. search (adding, rules))  -- overflow_add-at
+    (λ c. search (adding, rules))  -- overflow_add-passed
+    (λ c. search (adding, rules))  -- loop-passed-smaller
+    (λ c. search (adding, rules))  -- loop-passed-preserved
     (λ c. search (adding, rules)))  -- returns

@@ -8,7 +8,7 @@ pub last_after_spec : {M : Type 1} → statement M
 last_after_spec =
     tie.close
     (tie.spec
-    (λ c. search (lasting, rules))  -- enum-told
-    (λ c. search (lasting, rules))  -- enum-known-served
-    (λ c. search (lasting, rules))  -- returns
-    (λ c. search (lasting, rules)))  -- returns-2
+    (λ c. search (lasting, rules))  -- enum_told-1
+    (λ c. search (lasting, rules))  -- enum_known-served
+    (λ c. search (lasting, rules))  -- returns-in-Nobody
+    (λ c. search (lasting, rules)))  -- returns-in-One

@@ -18,12 +18,12 @@ next_waiting_spec =
     (tie.spec
     invariant-loop-passed
     decreases-loop-passed
-    (λ c. search (seeking, rules))  -- loop-holds
-    (λ c. search (seeking, rules))  -- add-number
-    (λ c. search (seeking, rules))  -- add-number-2
+    (λ c. search (seeking, rules))  -- loop-passed-init
+    (λ c. search (seeking, rules))  -- overflow_add-number
+    (λ c. search (seeking, rules))  -- overflow_add-number-in-loop-passed
     (λ c κs. search (seeking, rules))  -- waits-requires
-    (λ c. search (seeking, rules))  -- returns
-    (λ c. search (seeking, rules))  -- add-passed
-    (λ c. search (seeking, rules))  -- loop-less
-    (λ c. search (seeking, rules))  -- loop-again
-    (λ c. search (seeking, rules)))  -- returns-2
+    (λ c. search (seeking, rules))  -- returns-then-waits
+    (λ c. search (seeking, rules))  -- overflow_add-passed
+    (λ c. search (seeking, rules))  -- loop-passed-smaller
+    (λ c. search (seeking, rules))  -- loop-passed-preserved
+    (λ c. search (seeking, rules)))  -- returns

@@ -8,8 +8,8 @@ pub waits_spec : {M : Type 1} → statement M
 waits_spec =
     tie.close
     (tie.spec
-    (λ c. search (seeking, rules))  -- element-copy-out-if1
-    (λ c. search (seeking, rules))  -- mul-result
-    (λ c. search (seeking, rules))  -- shared-slice-read-result
-    (λ c. search (seeking, rules))  -- returns
-    (λ c. search (seeking, rules)))  -- returns-2
+    (λ c. search (seeking, rules))  -- bounds-flags-number
+    (λ c. search (seeking, rules))  -- offset_bounds-counts-number
+    (λ c. search (seeking, rules))  -- bounds-counts-number
+    (λ c. search (seeking, rules))  -- returns-then-flags-number
+    (λ c. search (seeking, rules)))  -- returns

@@ -8,7 +8,7 @@ pub serve_one_spec : {M : Type 1} → statement M
 serve_one_spec =
     tie.close
     (tie.spec
-    (λ c κs. search (serving, rules))  -- take-tested-requires
-    (λ c. search (serving, rules))  -- same-length
-    (λ c. search (serving, rules))  -- same-length-2
+    (λ c κs. search (serving, rules))  -- take_tested-called-requires
+    (λ c. search (serving, rules))  -- shape_of-values
+    (λ c. search (serving, rules))  -- shape_of-reply
     (λ c. search (serving, rules)))  -- returns

@@ -8,7 +8,7 @@ pub note_spec : {M : Type 1} → statement M
 note_spec =
     tie.close
     (tie.spec
-    (λ c κs. search (noting, rules))  -- with-flag-requires
-    (λ c κs. search (noting, rules))  -- claims-requires
-    (λ c κs. search (noting, rules))  -- still-few-requires
+    (λ c κs. search (noting, rules))  -- with_flag-flags-requires
+    (λ c κs. search (noting, rules))  -- claims-claimed-requires
+    (λ c κs. search (noting, rules))  -- still_few-few-requires
     (λ c. search (noting, rules)))  -- returns

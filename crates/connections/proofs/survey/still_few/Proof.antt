@@ -8,5 +8,5 @@ pub still_few_spec : {M : Type 1} → statement M
 still_few_spec =
     tie.close
     (tie.spec
-    (λ c. search (noting, rules))  -- returns
-    (λ c. search (noting, rules)))  -- returns-2
+    (λ c. search (noting, rules))  -- returns-then-claims-le-HELD
+    (λ c. search (noting, rules)))  -- returns

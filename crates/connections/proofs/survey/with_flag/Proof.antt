@@ -8,6 +8,6 @@ pub with_flag_spec : {M : Type 1} → statement M
 with_flag_spec =
     tie.close
     (tie.spec
-    (λ c. search (noting, rules))  -- returns
-    (λ c. search (noting, rules))  -- array-write-after
-    (λ c. search (noting, rules)))  -- returns-2
+    (λ c. search (noting, rules))  -- returns-then-number-ge32
+    (λ c. search (noting, rules))  -- bounds-after-number
+    (λ c. search (noting, rules)))  -- returns

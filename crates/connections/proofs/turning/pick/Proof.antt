@@ -8,10 +8,10 @@ pub pick_spec : {M : Type 1} → statement M
 pick_spec =
     tie.close
     (tie.spec
-    (λ c. search (picking, rules))  -- returns
-    (λ c. search (picking, rules))  -- returns-2
-    (λ c κs. search (picking, rules))  -- next-waiting-requires
-    (λ c. search (picking, rules))  -- enum-told
-    (λ c. search (picking, rules))  -- enum-known-served
-    (λ c. search (picking, rules))  -- returns-3
-    (λ c. search (picking, rules)))  -- returns-4
+    (λ c. search (picking, rules))  -- returns-then-counts-ne32
+    (λ c. search (picking, rules))  -- returns-then-last-gt31
+    (λ c κs. search (picking, rules))  -- next_waiting-served-requires
+    (λ c. search (picking, rules))  -- enum_told-1
+    (λ c. search (picking, rules))  -- enum_known-served
+    (λ c. search (picking, rules))  -- returns-in-Nobody
+    (λ c. search (picking, rules)))  -- returns-in-One

@@ -8,14 +8,14 @@ pub serve_next_spec : {M : Type 1} → statement M
 serve_next_spec =
     tie.close
     (tie.spec
-    (λ c κs. search (waiting, rules))  -- part-start-requires
-    (λ c. search (waiting, rules))  -- mul-end
-    (λ c. search (waiting, rules))  -- shared-slice-read-end
-    (λ c. search (waiting, rules))  -- add-end
-    (λ c. search (waiting, rules))  -- sub-serve-one
-    (λ c. search (waiting, rules))  -- part-serve-one-start
-    (λ c. search (waiting, rules))  -- part-serve-one-end
-    (λ c κs. search (waiting, rules))  -- serve-one-requires
-    (λ c. search (waiting, rules))  -- same-length
-    (λ c. search (waiting, rules))  -- same-length-2
+    (λ c κs. search (waiting, rules))  -- part_start-start-requires
+    (λ c. search (waiting, rules))  -- offset_bounds-counts-number
+    (λ c. search (waiting, rules))  -- bounds-counts-number
+    (λ c. search (waiting, rules))  -- overflow_add-end
+    (λ c. search (waiting, rules))  -- slice_bounds-serve_one-count
+    (λ c. search (waiting, rules))  -- slice_bounds-serve_one-start
+    (λ c. search (waiting, rules))  -- slice_bounds-serve_one-end
+    (λ c κs. search (waiting, rules))  -- serve_one-done-requires
+    (λ c. search (waiting, rules))  -- shape_of-values
+    (λ c. search (waiting, rules))  -- shape_of-reply
     (λ c. search (waiting, rules)))  -- returns

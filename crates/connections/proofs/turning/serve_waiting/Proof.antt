@@ -8,12 +8,12 @@ pub serve_waiting_spec : {M : Type 1} → statement M
 serve_waiting_spec =
     tie.close
     (tie.spec
-    (λ c κs. search (waiting, rules))  -- next-waiting-requires
-    (λ c. search (waiting, rules))  -- enum-told
-    (λ c κs. search (waiting, rules))  -- idle-requires
-    (λ c. search (waiting, rules))  -- enum-known-served
-    (λ c κs. ((search (waiting, rules), search (waiting, rules), search (waiting, rules), search (waiting, rules)), (search (waiting, rules), search (waiting, rules))))  -- serve-next-requires
-    (λ c. search (waiting, rules))  -- returns
-    (λ c. search (waiting, rules))  -- same-length
-    (λ c. search (waiting, rules))  -- same-length-2
-    (λ c. search (waiting, rules)))  -- returns-2
+    (λ c κs. search (waiting, rules))  -- next_waiting-served-requires
+    (λ c. search (waiting, rules))  -- enum_told-1
+    (λ c κs. search (waiting, rules))  -- idle-turned-requires
+    (λ c. search (waiting, rules))  -- enum_known-served
+    (λ c κs. ((search (waiting, rules), search (waiting, rules), search (waiting, rules), search (waiting, rules)), (search (waiting, rules), search (waiting, rules))))  -- serve_next-requires
+    (λ c. search (waiting, rules))  -- returns-in-Nobody
+    (λ c. search (waiting, rules))  -- shape_of-values
+    (λ c. search (waiting, rules))  -- shape_of-reply
+    (λ c. search (waiting, rules)))  -- returns-in-One

@@ -8,12 +8,12 @@ pub turn_one_spec : {M : Type 1} → statement M
 turn_one_spec =
     tie.close
     (tie.spec
-    (λ c κs. search (turning, rules))  -- all-rows-requires
-    (λ c κs. search (turning, rules))  -- turn-number-requires
-    (λ c κs. search (turning, rules))  -- idle-requires
-    (λ c. search (turning, rules))  -- same-length
-    (λ c. search (turning, rules))  -- returns
-    (λ c κs. ((search (turning, rules), search (turning, rules), search (turning, rules), search (turning, rules)), (search (turning, rules), search (turning, rules), search (turning, rules))))  -- serve-waiting-requires
-    (λ c. search (turning, rules))  -- same-length-2
-    (λ c. search (turning, rules))  -- same-length-3
-    (λ c. search (turning, rules)))  -- returns-2
+    (λ c κs. search (turning, rules))  -- all_rows-rows-requires
+    (λ c κs. search (turning, rules))  -- turn_number-number-requires
+    (λ c κs. search (turning, rules))  -- idle-turned-requires
+    (λ c. search (turning, rules))  -- shape_of-values-then-number-ne0
+    (λ c. search (turning, rules))  -- returns-then-number-ne0
+    (λ c κs. ((search (turning, rules), search (turning, rules), search (turning, rules), search (turning, rules)), (search (turning, rules), search (turning, rules), search (turning, rules))))  -- serve_waiting-requires
+    (λ c. search (turning, rules))  -- shape_of-values
+    (λ c. search (turning, rules))  -- shape_of-reply
+    (λ c. search (turning, rules)))  -- returns

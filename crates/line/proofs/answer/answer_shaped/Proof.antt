@@ -8,24 +8,24 @@ pub answer_shaped_spec : {M : Type 1} → statement M
 answer_shaped_spec =
     tie.close
     (tie.spec
-    (λ c κs. search (answering, rules))  -- meaning-of-requires
-    (λ c. search (answering, rules))  -- enum-known-cause
-    (λ c κs. search (answering, rules))  -- put-nak-requires
-    (λ c. search (answering, rules))  -- enum-known-n
-    (λ c κs. search (answering, rules))  -- put-nak-requires-2
-    (λ c. search (answering, rules))  -- enum-known-p
+    (λ c κs. search (answering, rules))  -- meaning_of-requires
+    (λ c. search (answering, rules))  -- enum_known-cause
+    (λ c κs. search (answering, rules))  -- put_nak-requires
+    (λ c. search (answering, rules))  -- enum_known-n
+    (λ c κs. search (answering, rules))  -- put_nak-requires-in-Code
+    (λ c. search (answering, rules))  -- enum_known-p
     (λ c κs. search (answering, rules))  -- tell-requires
-    (λ c. search (answering, rules))  -- enum-known-p-2
+    (λ c. search (answering, rules))  -- enum_known-p-in-Put-1
     (λ c κs. search (answering, rules))  -- put-requires
-    (λ c. search (answering, rules))  -- same-length
-    (λ c. search (answering, rules))  -- same-length-2
-    (λ c. search (answering, rules))  -- returns
-    (λ c. search (answering, rules))  -- same-length-3
-    (λ c. search (answering, rules))  -- same-length-4
-    (λ c. search (answering, rules))  -- returns-2
-    (λ c. search (answering, rules))  -- same-length-5
-    (λ c. search (answering, rules))  -- same-length-6
-    (λ c. search (answering, rules))  -- returns-3
-    (λ c. search (answering, rules))  -- same-length-7
-    (λ c. search (answering, rules))  -- same-length-8
-    (λ c. search (answering, rules)))  -- returns-4
+    (λ c. search (answering, rules))  -- shape_of-values-in-Malformed
+    (λ c. search (answering, rules))  -- shape_of-reply-in-Malformed
+    (λ c. search (answering, rules))  -- returns-in-Malformed
+    (λ c. search (answering, rules))  -- shape_of-values-in-Code
+    (λ c. search (answering, rules))  -- shape_of-reply-in-Code
+    (λ c. search (answering, rules))  -- returns-in-Code
+    (λ c. search (answering, rules))  -- shape_of-values-in-Get
+    (λ c. search (answering, rules))  -- shape_of-reply-in-Get
+    (λ c. search (answering, rules))  -- returns-in-Get
+    (λ c. search (answering, rules))  -- shape_of-values-in-Put
+    (λ c. search (answering, rules))  -- shape_of-reply-in-Put
+    (λ c. search (answering, rules)))  -- returns-in-Put

@@ -8,10 +8,10 @@ pub put_spec : {M : Type 1} → statement M
 put_spec =
     tie.close
     (tie.spec
-    (λ c. search (putting, rules))  -- add-place
-    (λ c. search (putting, rules))  -- mul-x
-    (λ c. search (putting, rules))  -- slice-set-from-x
-    (λ c κs. search (putting, rules))  -- put-ack-requires
-    (λ c. search (putting, rules))  -- same-length
-    (λ c. search (putting, rules))  -- same-length-2
+    (λ c. search (putting, rules))  -- overflow_add-place
+    (λ c. search (putting, rules))  -- offset_bounds-values-place
+    (λ c. search (putting, rules))  -- bounds-values-place
+    (λ c κs. search (putting, rules))  -- put_ack-requires
+    (λ c. search (putting, rules))  -- shape_of-values
+    (λ c. search (putting, rules))  -- shape_of-reply
     (λ c. (search (putting, rules), search (putting, rules))))  -- returns

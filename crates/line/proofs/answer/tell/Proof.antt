@@ -8,9 +8,9 @@ pub tell_spec : {M : Type 1} → statement M
 tell_spec =
     tie.close
     (tie.spec
-    (λ c. search (telling, rules))  -- add-place
-    (λ c. search (telling, rules))  -- mul-put-get
-    (λ c. search (telling, rules))  -- shared-slice-copy-out-put-get
-    (λ c κs. search (telling, rules))  -- put-get-requires
-    (λ c. search (telling, rules))  -- same-length
+    (λ c. search (telling, rules))  -- overflow_add-place
+    (λ c. search (telling, rules))  -- offset_bounds-values-place
+    (λ c. search (telling, rules))  -- bounds-values-place
+    (λ c κs. search (telling, rules))  -- put_get-requires
+    (λ c. search (telling, rules))  -- shape_of-reply
     (λ c. search (telling, rules)))  -- returns

@@ -8,11 +8,11 @@ pub bearer_of_spec : {M : Type 1} → statement M
 bearer_of_spec =
     tie.close
     (tie.spec
-    (λ c. search (bearer-rules, rules))  -- enum-told
-    (λ c. search (bearer-rules, rules))  -- enum-known-shape
-    (λ c κs. search (bearer-rules, rules))  -- quoted-bearer-requires
-    (λ c. search (bearer-rules, rules))  -- enum-known-shape-2
-    (λ c κs. search (bearer-rules, rules))  -- quoted-bearer-requires-2
-    (λ c. search (bearer-rules, rules))  -- returns
-    (λ c. search (bearer-rules, rules))  -- returns-2
-    (λ c. search (bearer-rules, rules)))  -- returns-3
+    (λ c. search (bearer-rules, rules))  -- enum_told-1
+    (λ c. search (bearer-rules, rules))  -- enum_known-shape
+    (λ c κs. search (bearer-rules, rules))  -- quoted_bearer-requires
+    (λ c. search (bearer-rules, rules))  -- enum_known-shape-in-Set-1
+    (λ c κs. search (bearer-rules, rules))  -- quoted_bearer-requires-in-Set
+    (λ c. search (bearer-rules, rules))  -- returns-in-Malformed
+    (λ c. search (bearer-rules, rules))  -- returns-in-Get
+    (λ c. search (bearer-rules, rules)))  -- returns-in-Set

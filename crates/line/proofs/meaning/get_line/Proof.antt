@@ -8,13 +8,13 @@ pub get_line_spec : {M : Type 1} → statement M
 get_line_spec =
     tie.close
     (tie.spec
-    (λ c. search (get_rules, rules))  -- add-sought-in
-    (λ c. search (get_rules, rules))  -- sub-sought-in
-    (λ c. search (get_rules, rules))  -- part-sought-in-start
-    (λ c. search (get_rules, rules))  -- part-sought-in-end
-    (λ c κs. search (get_rules, rules))  -- sought-in-requires
-    (λ c. search (get_rules, rules))  -- enum-known-p
-    (λ c. search (get_rules, rules))  -- enum-told
+    (λ c. search (get_rules, rules))  -- overflow_add-close
+    (λ c. search (get_rules, rules))  -- slice_bounds-sought_in-count
+    (λ c. search (get_rules, rules))  -- slice_bounds-sought_in-start
+    (λ c. search (get_rules, rules))  -- slice_bounds-sought_in-end
+    (λ c κs. search (get_rules, rules))  -- sought_in-requires
+    (λ c. search (get_rules, rules))  -- enum_known-p
+    (λ c. search (get_rules, rules))  -- enum_told-1
     (λ c κs. search (get_rules, rules))  -- missing-requires
-    (λ c. search (get_rules, rules))  -- returns
-    (λ c. search (get_rules, rules)))  -- returns-2
+    (λ c. search (get_rules, rules))  -- returns-in-At
+    (λ c. search (get_rules, rules)))  -- returns-in-Nothing

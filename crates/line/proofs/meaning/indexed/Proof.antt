@@ -8,9 +8,9 @@ pub indexed_spec : {M : Type 1} → statement M
 indexed_spec =
     tie.close
     (tie.spec
-    (λ c κs. search (indexed-rules, rules))  -- read-indices-requires
-    (λ c. search (indexed-rules, rules))  -- enum-known-groups
+    (λ c κs. search (indexed-rules, rules))  -- read_indices-requires
+    (λ c. search (indexed-rules, rules))  -- enum_known-groups
     (λ c κs. search (indexed-rules, rules))  -- named-requires
-    (λ c. search (indexed-rules, rules))  -- enum-told
-    (λ c. search (indexed-rules, rules))  -- returns
-    (λ c. search (indexed-rules, rules)))  -- returns-2
+    (λ c. search (indexed-rules, rules))  -- enum_told-1
+    (λ c. search (indexed-rules, rules))  -- returns-in-Right
+    (λ c. search (indexed-rules, rules)))  -- returns-in-Wrong

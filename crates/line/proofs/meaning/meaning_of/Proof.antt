@@ -8,11 +8,11 @@ pub meaning_of_spec : {M : Type 1} → statement M
 meaning_of_spec =
     tie.close
     (tie.spec
-    (λ c. search (meaning-rules, rules))  -- enum-told
-    (λ c. search (meaning-rules, rules))  -- enum-known-shape
-    (λ c κs. search (meaning-rules, rules))  -- get-line-requires
-    (λ c. search (meaning-rules, rules))  -- enum-known-shape-2
-    (λ c κs. search (meaning-rules, rules))  -- set-line-requires
-    (λ c. search (meaning-rules, rules))  -- returns
-    (λ c. search (meaning-rules, rules))  -- returns-2
-    (λ c. search (meaning-rules, rules)))  -- returns-3
+    (λ c. search (meaning-rules, rules))  -- enum_known-shape
+    (λ c. search (meaning-rules, rules))  -- enum_known-shape-in-Get-1
+    (λ c κs. search (meaning-rules, rules))  -- get_line-requires
+    (λ c. search (meaning-rules, rules))  -- enum_known-shape-in-Set-1
+    (λ c κs. search (meaning-rules, rules))  -- set_line-requires
+    (λ c. search (meaning-rules, rules))  -- returns-in-Malformed
+    (λ c. search (meaning-rules, rules))  -- returns-in-Get
+    (λ c. search (meaning-rules, rules)))  -- returns-in-Set

@@ -8,7 +8,7 @@ pub missing_spec : {M : Type 1} → statement M
 missing_spec =
     tie.close
     (tie.spec
-    (λ c. search (missing-rules, rules))  -- enum-told
-    (λ c. search (missing-rules, rules))  -- enum-told-2
-    (λ c. search (missing-rules, rules))  -- returns
-    (λ c. search (missing-rules, rules)))  -- returns-2
+    (λ c. search (missing-rules, rules))  -- enum_told-1
+    (λ c. search (missing-rules, rules))  -- enum_told-in-NotOne
+    (λ c. search (missing-rules, rules))  -- returns-in-Only
+    (λ c. search (missing-rules, rules)))  -- returns-in-NotOne

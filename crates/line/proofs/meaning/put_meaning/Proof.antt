@@ -8,11 +8,11 @@ pub put_meaning_spec : {M : Type 1} → statement M
 put_meaning_spec =
     tie.close
     (tie.spec
-    (λ c. search (put_rules, rules))  -- add-place
-    (λ c. search (put_rules, rules))  -- mul-present
-    (λ c. search (put_rules, rules))  -- shared-slice-copy-out-present
-    (λ c κs. search (put_rules, rules))  -- read-value-requires
-    (λ c. search (put_rules, rules))  -- enum-known-x
-    (λ c. search (put_rules, rules))  -- enum-told
-    (λ c. search (put_rules, rules))  -- returns
-    (λ c. search (put_rules, rules)))  -- returns-2
+    (λ c. search (put_rules, rules))  -- overflow_add-place
+    (λ c. search (put_rules, rules))  -- offset_bounds-values-place
+    (λ c. search (put_rules, rules))  -- bounds-values-place
+    (λ c κs. search (put_rules, rules))  -- read_value-requires
+    (λ c. search (put_rules, rules))  -- enum_known-x
+    (λ c. search (put_rules, rules))  -- enum_told-1
+    (λ c. search (put_rules, rules))  -- returns-in-Value
+    (λ c. search (put_rules, rules)))  -- returns-in-Wrong

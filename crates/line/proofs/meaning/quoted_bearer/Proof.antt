@@ -8,9 +8,9 @@ pub quoted_bearer_spec : {M : Type 1} → statement M
 quoted_bearer_spec =
     tie.close
     (tie.spec
-    (λ c. search (bearer-rules, rules))  -- add-find-bearer
-    (λ c. search (bearer-rules, rules))  -- sub-find-bearer
-    (λ c. search (bearer-rules, rules))  -- part-find-bearer-start
-    (λ c. search (bearer-rules, rules))  -- part-find-bearer-end
-    (λ c κs. search (bearer-rules, rules))  -- find-bearer-requires
+    (λ c. search (bearer-rules, rules))  -- overflow_add-quote
+    (λ c. search (bearer-rules, rules))  -- slice_bounds-find_bearer-count
+    (λ c. search (bearer-rules, rules))  -- slice_bounds-find_bearer-start
+    (λ c. search (bearer-rules, rules))  -- slice_bounds-find_bearer-end
+    (λ c κs. search (bearer-rules, rules))  -- find_bearer-requires
     (λ c. search (bearer-rules, rules)))  -- returns

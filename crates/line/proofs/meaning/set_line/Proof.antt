@@ -8,18 +8,18 @@ pub set_line_spec : {M : Type 1} → statement M
 set_line_spec =
     tie.close
     (tie.spec
-    (λ c. search (set_rules, rules))  -- add-sought-in
-    (λ c. search (set_rules, rules))  -- sub-sought-in
-    (λ c. search (set_rules, rules))  -- part-sought-in-start
-    (λ c. search (set_rules, rules))  -- part-sought-in-end
-    (λ c κs. search (set_rules, rules))  -- sought-in-requires
-    (λ c. search (set_rules, rules))  -- enum-known-p
-    (λ c. search (set_rules, rules))  -- add-put-meaning
-    (λ c. search (set_rules, rules))  -- sub-put-meaning
-    (λ c. search (set_rules, rules))  -- part-put-meaning-start
-    (λ c. search (set_rules, rules))  -- part-put-meaning-end
-    (λ c κs. search (set_rules, rules))  -- put-meaning-requires
-    (λ c. search (set_rules, rules))  -- enum-told
+    (λ c. search (set_rules, rules))  -- overflow_add-close
+    (λ c. search (set_rules, rules))  -- slice_bounds-sought_in-count
+    (λ c. search (set_rules, rules))  -- slice_bounds-sought_in-start
+    (λ c. search (set_rules, rules))  -- slice_bounds-sought_in-end
+    (λ c κs. search (set_rules, rules))  -- sought_in-requires
+    (λ c. search (set_rules, rules))  -- enum_known-p
+    (λ c. search (set_rules, rules))  -- overflow_add-equal
+    (λ c. search (set_rules, rules))  -- slice_bounds-put_meaning-count
+    (λ c. search (set_rules, rules))  -- slice_bounds-put_meaning-start
+    (λ c. search (set_rules, rules))  -- slice_bounds-put_meaning-end
+    (λ c κs. search (set_rules, rules))  -- put_meaning-requires
+    (λ c. search (set_rules, rules))  -- enum_told-1
     (λ c κs. search (set_rules, rules))  -- missing-requires
-    (λ c. search (set_rules, rules))  -- returns
-    (λ c. search (set_rules, rules)))  -- returns-2
+    (λ c. search (set_rules, rules))  -- returns-in-At
+    (λ c. search (set_rules, rules)))  -- returns-in-Nothing

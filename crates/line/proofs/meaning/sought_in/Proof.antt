@@ -8,8 +8,8 @@ pub sought_in_spec : {M : Type 1} → statement M
 sought_in_spec =
     tie.close
     (tie.spec
-    (λ c. search (sought_rules, rules))  -- enum-known-bearer
+    (λ c. search (sought_rules, rules))  -- enum_known-bearer
     (λ c κs. search (sought_rules, rules))  -- indexed-requires
-    (λ c. search (sought_rules, rules))  -- enum-told
-    (λ c. search (sought_rules, rules))  -- returns
-    (λ c. search (sought_rules, rules)))  -- returns-2
+    (λ c. search (sought_rules, rules))  -- enum_told-1
+    (λ c. search (sought_rules, rules))  -- returns-in-Only
+    (λ c. search (sought_rules, rules)))  -- returns-in-NotOne

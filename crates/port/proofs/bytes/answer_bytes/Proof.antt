@@ -8,7 +8,7 @@ pub answer_bytes_spec : {M : Type 1} → statement M
 answer_bytes_spec =
     tie.close
     (tie.spec
-    (λ c κs. search rules)  -- serve-all-requires
-    (λ c. search rules)  -- same-length
-    (λ c. search rules)  -- same-length-2
+    (λ c κs. search rules)  -- serve_all-served-requires
+    (λ c. search rules)  -- shape_of-values
+    (λ c. search rules)  -- shape_of-out
     (λ c. search (all_answered, rules)))  -- returns

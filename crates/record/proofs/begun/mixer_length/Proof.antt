@@ -8,11 +8,11 @@ pub mixer_length_spec : {M : Type 1} → statement M
 mixer_length_spec =
     tie.close
     (tie.spec
-    (λ c. search (sizes, rules))  -- returns
-    (λ c. search (sizes, rules))  -- shared-slice-read-size-right
-    (λ c κs. search (sizes, rules))  -- size-right-requires
-    (λ c. search (sizes, rules))  -- returns-2
-    (λ c. search (sizes, rules))  -- shared-slice-read-size-right-2
-    (λ c κs. search (sizes, rules))  -- size-right-requires-2
-    (λ c. search (sizes, rules))  -- returns-3
-    (λ c. search (sizes, rules)))  -- returns-4
+    (λ c. search (sizes, rules))  -- returns-then-rest-lt34
+    (λ c. search (sizes, rules))  -- bounds-rest-32
+    (λ c κs. search (sizes, rules))  -- size_right-requires
+    (λ c. search (sizes, rules))  -- returns-then-not-size_right
+    (λ c. search (sizes, rules))  -- bounds-rest-33
+    (λ c κs. search (sizes, rules))  -- size_right-requires-2
+    (λ c. search (sizes, rules))  -- returns-then-not-size_right-2
+    (λ c. search (sizes, rules)))  -- returns

@@ -8,5 +8,5 @@ pub size_right_spec : {M : Type 1} → statement M
 size_right_spec =
     tie.close
     (tie.spec
-    (λ c. search (sizes, rules))  -- returns
-    (λ c. search (sizes, rules)))  -- returns-2
+    (λ c. search (sizes, rules))  -- returns-then-n-lt1
+    (λ c. search (sizes, rules)))  -- returns

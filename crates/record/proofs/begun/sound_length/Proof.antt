@@ -8,12 +8,12 @@ pub sound_length_spec : {M : Type 1} → statement M
 sound_length_spec =
     tie.close
     (tie.spec
-    (λ c. search (bodies, rules))  -- returns
-    (λ c. search (bodies, rules))  -- slice-aggregate-field-sound
-    (λ c κs. search (bodies, rules))  -- field-sound-requires
-    (λ c. search (bodies, rules))  -- returns-2
-    (λ c κs. search (bodies, rules))  -- is-fixed-requires
-    (λ c. search (bodies, rules))  -- returns-3
-    (λ c. search (bodies, rules))  -- returns-4
-    (λ c κs. search (bodies, rules))  -- mixer-length-requires
-    (λ c. search (bodies, rules)))  -- returns-5
+    (λ c. search (bodies, rules))  -- returns-then-rest-lt32
+    (λ c. search (bodies, rules))  -- slice_bounds-field_sound-end
+    (λ c κs. search (bodies, rules))  -- field_sound-requires
+    (λ c. search (bodies, rules))  -- returns-then-not-field_sound
+    (λ c κs. search (bodies, rules))  -- is_fixed-requires
+    (λ c. search (bodies, rules))  -- returns-then-is_fixed
+    (λ c. search (bodies, rules))  -- returns-then-kind-ne7
+    (λ c κs. search (bodies, rules))  -- mixer_length-requires
+    (λ c. search (bodies, rules)))  -- returns

@@ -8,6 +8,6 @@ pub body_length_spec : {M : Type 1} → statement M
 body_length_spec =
     tie.close
     (tie.spec
-    (λ c κs. search (lengths, rules))  -- is-fixed-requires
-    (λ c. search (lengths, rules))  -- returns
-    (λ c. search (lengths, rules)))  -- returns-2
+    (λ c κs. search (lengths, rules))  -- is_fixed-requires
+    (λ c. search (lengths, rules))  -- returns-then-is_fixed
+    (λ c. search (lengths, rules)))  -- returns

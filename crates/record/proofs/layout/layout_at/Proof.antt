@@ -8,11 +8,11 @@ pub layout_at_spec : {M : Type 1} → statement M
 layout_at_spec =
     tie.close
     (tie.spec
-    (λ c. search (reading, rules))  -- shared-slice-read-kind
-    (λ c κs. search (reading, rules))  -- is-fixed-requires
-    (λ c. search (reading, rules))  -- returns
-    (λ c. search (reading, rules))  -- add-t7
-    (λ c. search (reading, rules))  -- shared-slice-read-t5
-    (λ c. search (reading, rules))  -- add-t9
-    (λ c. search (reading, rules))  -- shared-slice-read-t11
-    (λ c. search (reading, rules)))  -- returns-2
+    (λ c. search (reading, rules))  -- bounds-table-place
+    (λ c κs. search (reading, rules))  -- is_fixed-requires
+    (λ c. search (reading, rules))  -- returns-then-is_fixed
+    (λ c. search (reading, rules))  -- overflow_add-result
+    (λ c. search (reading, rules))  -- bounds-table-place-2
+    (λ c. search (reading, rules))  -- overflow_add-result-2
+    (λ c. search (reading, rules))  -- bounds-table-place-3
+    (λ c. search (reading, rules)))  -- returns

@@ -20,16 +20,16 @@ write_spec =
     (tie.spec
     invariant-loop-place
     decreases-loop-place
-    (λ c. search (putting, walking, rules))  -- loop-holds
-    (λ c κs. search (putting, walking, rules))  -- layout-at-requires
-    (λ c κs. search (putting, walking, rules))  -- write-module-requires
-    (λ c. search (putting, walking, rules))  -- add-number
-    (λ c. search (putting, walking, rules))  -- add-place
-    (λ c κs. search (putting, walking, rules))  -- body-length-requires
-    (λ c. search (putting, walking, rules))  -- add-place-2
-    (λ c κs. search (putting, walking, rules))  -- row-count-requires
-    (λ c. search (putting, walking, rules))  -- add-first
-    (λ c. search (putting, walking, rules))  -- loop-less
-    (λ c. search (putting, walking, rules))  -- loop-again
-    (λ c. search (putting, walking, rules))  -- same-length
+    (λ c. search (putting, walking, rules))  -- loop-place-init
+    (λ c κs. search (putting, walking, rules))  -- layout_at-layout-requires
+    (λ c κs. search (putting, walking, rules))  -- write_module-at-requires
+    (λ c. search (putting, walking, rules))  -- overflow_add-number
+    (λ c. search (putting, walking, rules))  -- overflow_add-place
+    (λ c κs. search (putting, walking, rules))  -- body_length-requires
+    (λ c. search (putting, walking, rules))  -- overflow_add-place-in-loop-place
+    (λ c κs. search (putting, walking, rules))  -- row_count-first-requires
+    (λ c. search (putting, walking, rules))  -- overflow_add-first
+    (λ c. search (putting, walking, rules))  -- loop-place-smaller
+    (λ c. search (putting, walking, rules))  -- loop-place-preserved
+    (λ c. search (putting, walking, rules))  -- shape_of-list
     (λ c. search (putting, walking, rules)))  -- returns

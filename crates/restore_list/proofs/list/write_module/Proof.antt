@@ -11,31 +11,31 @@ pub write_module_spec : {M : Type 1} → statement M
 write_module_spec =
     tie.close
     (tie.spec
-    (λ c. search (module_putting, parting, rules))  -- shared-slice-read-if1
-    (λ c. search (module_putting, parting, rules))  -- returns
-    (λ c κs. search rules)  -- label-length-requires
-    (λ c κs. search (module_putting, parting, rules))  -- row-count-requires
-    (λ c. search (module_putting, parting, rules))  -- add-end
-    (λ c κs. search (module_putting, parting, rules))  -- is-fixed-requires
-    (λ c. search (module_putting, parting, rules))  -- mul-write-listed
-    (λ c. search (module_putting, parting, rules))  -- sub-write-listed
-    (λ c. search (module_putting, parting, rules))  -- part-write-listed-start
-    (λ c. search (module_putting, parting, rules))  -- part-write-listed-end
-    (λ c. search (module_putting, parting, rules))  -- mul-write-listed-2
-    (λ c. search (module_putting, parting, rules))  -- sub-write-listed-2
-    (λ c. search (module_putting, parting, rules))  -- part-write-listed-start-2
-    (λ c. search (module_putting, parting, rules))  -- part-write-listed-end-2
-    (λ c κs. ((search rules, search rules, search (kind-flag, rules), search rules, search (label-long, rules)), ((search (parting, rules), search (parting, rules)), search (chosen-room, rules))))  -- write-listed-requires
-    (λ c. search (module_putting, parting, rules))  -- same-length
-    (λ c. search (module_putting, parting, rules))  -- returns-2
-    (λ c. search (module_putting, parting, rules))  -- mul-write-rows
-    (λ c. search (module_putting, parting, rules))  -- sub-write-rows
-    (λ c. search (module_putting, parting, rules))  -- part-write-rows-start
-    (λ c. search (module_putting, parting, rules))  -- part-write-rows-end
-    (λ c. search (module_putting, parting, rules))  -- mul-write-rows-2
-    (λ c. search (module_putting, parting, rules))  -- sub-write-rows-2
-    (λ c. search (module_putting, parting, rules))  -- part-write-rows-start-2
-    (λ c. search (module_putting, parting, rules))  -- part-write-rows-end-2
-    (λ c κs. ((search rules, search rules, search rules, search (label-long, rules)), ((search (parting, rules), search (parting, rules)), search (chosen-room, rules))))  -- write-rows-requires
-    (λ c. search (module_putting, parting, rules))  -- same-length-2
-    (λ c. search (module_putting, parting, rules)))  -- returns-3
+    (λ c. search (module_putting, parting, rules))  -- bounds-selection-number
+    (λ c. search (module_putting, parting, rules))  -- returns-then-selection-number-ne1
+    (λ c κs. search rules)  -- label_length-size-requires
+    (λ c κs. search (module_putting, parting, rules))  -- row_count-requires
+    (λ c. search (module_putting, parting, rules))  -- overflow_add-end
+    (λ c κs. search (module_putting, parting, rules))  -- is_fixed-requires
+    (λ c. search (module_putting, parting, rules))  -- offset_bounds-present-first
+    (λ c. search (module_putting, parting, rules))  -- slice_bounds-write_listed-count
+    (λ c. search (module_putting, parting, rules))  -- slice_bounds-write_listed-start
+    (λ c. search (module_putting, parting, rules))  -- slice_bounds-write_listed-end
+    (λ c. search (module_putting, parting, rules))  -- offset_bounds-wanted-first
+    (λ c. search (module_putting, parting, rules))  -- slice_bounds-write_listed-count-then-is_fixed
+    (λ c. search (module_putting, parting, rules))  -- slice_bounds-write_listed-start-then-is_fixed
+    (λ c. search (module_putting, parting, rules))  -- slice_bounds-write_listed-end-then-is_fixed
+    (λ c κs. ((search rules, search rules, search (kind-flag, rules), search rules, search (label-long, rules)), ((search (parting, rules), search (parting, rules)), search (chosen-room, rules))))  -- write_listed-requires
+    (λ c. search (module_putting, parting, rules))  -- shape_of-list-then-is_fixed
+    (λ c. search (module_putting, parting, rules))  -- returns-then-is_fixed
+    (λ c. search (module_putting, parting, rules))  -- offset_bounds-present-first-2
+    (λ c. search (module_putting, parting, rules))  -- slice_bounds-write_rows-count
+    (λ c. search (module_putting, parting, rules))  -- slice_bounds-write_rows-start
+    (λ c. search (module_putting, parting, rules))  -- slice_bounds-write_rows-end
+    (λ c. search (module_putting, parting, rules))  -- offset_bounds-wanted-first-2
+    (λ c. search (module_putting, parting, rules))  -- slice_bounds-write_rows-count-2
+    (λ c. search (module_putting, parting, rules))  -- slice_bounds-write_rows-start-2
+    (λ c. search (module_putting, parting, rules))  -- slice_bounds-write_rows-end-2
+    (λ c κs. ((search rules, search rules, search rules, search (label-long, rules)), ((search (parting, rules), search (parting, rules)), search (chosen-room, rules))))  -- write_rows-requires
+    (λ c. search (module_putting, parting, rules))  -- shape_of-list
+    (λ c. search (module_putting, parting, rules)))  -- returns

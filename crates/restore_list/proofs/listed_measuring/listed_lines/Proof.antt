@@ -18,19 +18,19 @@ listed_lines_spec =
     (tie.spec
     invariant-loop-j
     decreases-loop-j
-    (λ c. search (listed_measuring, rules))  -- loop-holds
-    (λ c. search (listed_measuring, rules))  -- mul-from
-    (λ c. search (listed_measuring, rules))  -- shared-slice-copy-out-from
-    (λ c. search (listed_measuring, rules))  -- mul-to
-    (λ c. search (listed_measuring, rules))  -- shared-slice-copy-out-to
-    (λ c. search (listed_measuring, rules))  -- add-j
-    (λ c. search (listed_measuring, rules))  -- loop-less
-    (λ c. search (listed_measuring, rules))  -- loop-again
-    (λ c κs. search (listed_measuring, rules))  -- listed-row-requires
-    (λ c. search (listed_measuring, rules))  -- returns
-    (λ c κs. search (listed_measuring, rules))  -- whole-line-length-requires
-    (λ c. search (listed_measuring, rules))  -- add-bytes
-    (λ c. search (listed_measuring, rules))  -- add-lines
-    (λ c. search (listed_measuring, rules))  -- loop-less-2
-    (λ c. search (listed_measuring, rules))  -- loop-again-2
-    (λ c. search (listed_measuring, rules)))  -- returns-2
+    (λ c. search (listed_measuring, rules))  -- loop-j-init
+    (λ c. search (listed_measuring, rules))  -- offset_bounds-present-number
+    (λ c. search (listed_measuring, rules))  -- bounds-present-number
+    (λ c. search (listed_measuring, rules))  -- offset_bounds-wanted-number
+    (λ c. search (listed_measuring, rules))  -- bounds-wanted-number
+    (λ c. search (listed_measuring, rules))  -- overflow_add-j
+    (λ c. search (listed_measuring, rules))  -- loop-j-smaller-then-from-to
+    (λ c. search (listed_measuring, rules))  -- loop-j-preserved-then-from-to
+    (λ c κs. search (listed_measuring, rules))  -- listed_row-row-requires
+    (λ c. search (listed_measuring, rules))  -- returns-then-not-row
+    (λ c κs. search (listed_measuring, rules))  -- whole_line_length-bytes-requires
+    (λ c. search (listed_measuring, rules))  -- overflow_add-bytes
+    (λ c. search (listed_measuring, rules))  -- overflow_add-lines
+    (λ c. search (listed_measuring, rules))  -- loop-j-smaller
+    (λ c. search (listed_measuring, rules))  -- loop-j-preserved
+    (λ c. search (listed_measuring, rules)))  -- returns

@@ -18,17 +18,17 @@ write_listed_spec =
     (tie.spec
     invariant-loop-j
     decreases-loop-j
-    (λ c. search (listed_putting, rules))  -- loop-holds
-    (λ c. search (listed_putting, rules))  -- mul-from
-    (λ c. search (listed_putting, rules))  -- shared-slice-copy-out-from
-    (λ c. search (listed_putting, rules))  -- mul-to
-    (λ c. search (listed_putting, rules))  -- shared-slice-copy-out-to
-    (λ c. search (listed_putting, rules))  -- add-j
-    (λ c. search (listed_putting, rules))  -- loop-less
-    (λ c. search (listed_putting, rules))  -- loop-again
-    (λ c κs. search (listed_putting, rules))  -- listed-row-requires
-    (λ c κs. search (listed_putting, rules))  -- write-whole-requires
-    (λ c. search (listed_putting, rules))  -- loop-less-2
-    (λ c. search (listed_putting, rules))  -- loop-again-2
-    (λ c. search (listed_putting, rules))  -- same-length
+    (λ c. search (listed_putting, rules))  -- loop-j-init
+    (λ c. search (listed_putting, rules))  -- offset_bounds-present-number
+    (λ c. search (listed_putting, rules))  -- bounds-present-number
+    (λ c. search (listed_putting, rules))  -- offset_bounds-wanted-number
+    (λ c. search (listed_putting, rules))  -- bounds-wanted-number
+    (λ c. search (listed_putting, rules))  -- overflow_add-j
+    (λ c. search (listed_putting, rules))  -- loop-j-smaller-then-from-to
+    (λ c. search (listed_putting, rules))  -- loop-j-preserved-then-from-to
+    (λ c κs. search (listed_putting, rules))  -- listed_row-requires
+    (λ c κs. search (listed_putting, rules))  -- write_whole-at-requires
+    (λ c. search (listed_putting, rules))  -- loop-j-smaller
+    (λ c. search (listed_putting, rules))  -- loop-j-preserved
+    (λ c. search (listed_putting, rules))  -- shape_of-list
     (λ c. search (listed_putting, rules)))  -- returns

@@ -8,10 +8,10 @@ pub write_whole_spec : {M : Type 1} → statement M
 write_whole_spec =
     tie.close
     (tie.spec
-    (λ c. search (whole-lending, rules))  -- sub-put-whole-line
-    (λ c. search (whole-lending, rules))  -- part-put-whole-line-start
-    (λ c. search (whole-lending, rules))  -- part-put-whole-line-end
-    (λ c κs. search (whole-lending, rules))  -- put-whole-line-requires
-    (λ c. search (whole-lending, rules))  -- add-result
-    (λ c. search (whole-lending, rules))  -- same-length
+    (λ c. search (whole-lending, rules))  -- slice_bounds-put_whole_line-count
+    (λ c. search (whole-lending, rules))  -- slice_bounds-put_whole_line-start
+    (λ c. search (whole-lending, rules))  -- slice_bounds-put_whole_line-end
+    (λ c κs. search (whole-lending, rules))  -- put_whole_line-requires
+    (λ c. search (whole-lending, rules))  -- overflow_add-result
+    (λ c. search (whole-lending, rules))  -- shape_of-list
     (λ c. search (whole-lending, rules)))  -- returns

@@ -20,20 +20,20 @@ measure_spec =
     (tie.spec
     invariant-loop-place
     decreases-loop-place
-    (λ c. search (summing, walking, rules))  -- loop-holds
-    (λ c κs. search (summing, walking, rules))  -- layout-at-requires
-    (λ c κs. search (summing, walking, rules))  -- measure-module-requires
-    (λ c. search (summing, walking, rules))  -- enum-told
-    (λ c. search (summing, walking, rules))  -- returns
-    (λ c. search (summing, walking, rules))  -- enum-known-b
-    (λ c. search (summing, walking, rules))  -- add-bytes
-    (λ c. search (summing, walking, rules))  -- add-lines
-    (λ c. search (summing, walking, rules))  -- add-number
-    (λ c. search (summing, walking, rules))  -- add-place
-    (λ c κs. search (summing, walking, rules))  -- body-length-requires
-    (λ c. search (summing, walking, rules))  -- add-place-2
-    (λ c κs. search (summing, walking, rules))  -- row-count-requires
-    (λ c. search (summing, walking, rules))  -- add-first
-    (λ c. search (summing, walking, rules))  -- loop-less
-    (λ c. search (summing, walking, rules))  -- loop-again
-    (λ c. search (summing, walking, rules)))  -- returns-2
+    (λ c. search (summing, walking, rules))  -- loop-place-init
+    (λ c κs. search (summing, walking, rules))  -- layout_at-layout-requires
+    (λ c κs. search (summing, walking, rules))  -- measure_module-requires
+    (λ c. search (summing, walking, rules))  -- enum_told-1
+    (λ c. search (summing, walking, rules))  -- returns-in-Beyond
+    (λ c. search (summing, walking, rules))  -- enum_known-b
+    (λ c. search (summing, walking, rules))  -- overflow_add-bytes
+    (λ c. search (summing, walking, rules))  -- overflow_add-lines
+    (λ c. search (summing, walking, rules))  -- overflow_add-number
+    (λ c. search (summing, walking, rules))  -- overflow_add-place
+    (λ c κs. search (summing, walking, rules))  -- body_length-requires
+    (λ c. search (summing, walking, rules))  -- overflow_add-place-in-loop-place
+    (λ c κs. search (summing, walking, rules))  -- row_count-first-requires
+    (λ c. search (summing, walking, rules))  -- overflow_add-first
+    (λ c. search (summing, walking, rules))  -- loop-place-smaller
+    (λ c. search (summing, walking, rules))  -- loop-place-preserved
+    (λ c. search (summing, walking, rules)))  -- returns

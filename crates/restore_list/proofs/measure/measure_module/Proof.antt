@@ -9,14 +9,14 @@ pub measure_module_spec : {M : Type 1} → statement M
 measure_module_spec =
     tie.close
     (tie.spec
-    (λ c. search (module_measuring, rules))  -- shared-slice-read-if1
-    (λ c. search (module_measuring, rules))  -- returns
-    (λ c κs. search (module_measuring, rules))  -- label-length-requires
-    (λ c κs. search (module_measuring, label-long, rules))  -- module-lines-requires
-    (λ c. search (module_measuring, rules))  -- enum-told
-    (λ c. search (module_measuring, rules))  -- enum-known-bytes
-    (λ c. search (module_measuring, rules))  -- returns-2
-    (λ c κs. search (module_measuring, label-long, rules))  -- borne-once-requires
-    (λ c. search (module_measuring, rules))  -- returns-3
-    (λ c. search (module_measuring, rules))  -- returns-4
-    (λ c. search (module_measuring, rules)))  -- returns-5
+    (λ c. search (module_measuring, rules))  -- bounds-selection-number
+    (λ c. search (module_measuring, rules))  -- returns-then-selection-number-ne1
+    (λ c κs. search (module_measuring, rules))  -- label_length-size-requires
+    (λ c κs. search (module_measuring, label-long, rules))  -- module_lines-requires
+    (λ c. search (module_measuring, rules))  -- enum_told-1
+    (λ c. search (module_measuring, rules))  -- enum_known-bytes
+    (λ c. search (module_measuring, rules))  -- returns-then-lines-eq0
+    (λ c κs. search (module_measuring, label-long, rules))  -- borne_once-requires
+    (λ c. search (module_measuring, rules))  -- returns-then-not-borne_once
+    (λ c. search (module_measuring, rules))  -- returns-in-Beyond
+    (λ c. search (module_measuring, rules)))  -- returns-else-not-borne_once

@@ -9,26 +9,26 @@ pub module_lines_spec : {M : Type 1} → statement M
 module_lines_spec =
     tie.close
     (tie.spec
-    (λ c κs. search (parting, kind-flag, rules))  -- row-count-requires
-    (λ c. search (parting, kind-flag, rules))  -- add-end
-    (λ c κs. search (parting, kind-flag, rules))  -- is-fixed-requires
-    (λ c. search (parting, kind-flag, rules))  -- mul-listed-lines
-    (λ c. search (parting, kind-flag, rules))  -- sub-listed-lines
-    (λ c. search (parting, kind-flag, rules))  -- part-listed-lines-start
-    (λ c. search (parting, kind-flag, rules))  -- part-listed-lines-end
-    (λ c. search (parting, kind-flag, rules))  -- mul-listed-lines-2
-    (λ c. search (parting, kind-flag, rules))  -- sub-listed-lines-2
-    (λ c. search (parting, kind-flag, rules))  -- part-listed-lines-start-2
-    (λ c. search (parting, kind-flag, rules))  -- part-listed-lines-end-2
-    (λ c κs. search (parting, kind-flag, rules))  -- listed-lines-requires
-    (λ c. search (parting, kind-flag, rules))  -- returns
-    (λ c. search (parting, kind-flag, rules))  -- mul-row-lines
-    (λ c. search (parting, kind-flag, rules))  -- sub-row-lines
-    (λ c. search (parting, kind-flag, rules))  -- part-row-lines-start
-    (λ c. search (parting, kind-flag, rules))  -- part-row-lines-end
-    (λ c. search (parting, kind-flag, rules))  -- mul-row-lines-2
-    (λ c. search (parting, kind-flag, rules))  -- sub-row-lines-2
-    (λ c. search (parting, kind-flag, rules))  -- part-row-lines-start-2
-    (λ c. search (parting, kind-flag, rules))  -- part-row-lines-end-2
-    (λ c κs. search (parting, kind-flag, rules))  -- row-lines-requires
-    (λ c. search (parting, kind-flag, rules)))  -- returns-2
+    (λ c κs. search (parting, kind-flag, rules))  -- row_count-requires
+    (λ c. search (parting, kind-flag, rules))  -- overflow_add-end
+    (λ c κs. search (parting, kind-flag, rules))  -- is_fixed-requires
+    (λ c. search (parting, kind-flag, rules))  -- offset_bounds-present-first
+    (λ c. search (parting, kind-flag, rules))  -- slice_bounds-listed_lines-count
+    (λ c. search (parting, kind-flag, rules))  -- slice_bounds-listed_lines-start
+    (λ c. search (parting, kind-flag, rules))  -- slice_bounds-listed_lines-end
+    (λ c. search (parting, kind-flag, rules))  -- offset_bounds-wanted-first
+    (λ c. search (parting, kind-flag, rules))  -- slice_bounds-listed_lines-count-then-is_fixed
+    (λ c. search (parting, kind-flag, rules))  -- slice_bounds-listed_lines-start-then-is_fixed
+    (λ c. search (parting, kind-flag, rules))  -- slice_bounds-listed_lines-end-then-is_fixed
+    (λ c κs. search (parting, kind-flag, rules))  -- listed_lines-requires
+    (λ c. search (parting, kind-flag, rules))  -- returns-then-is_fixed
+    (λ c. search (parting, kind-flag, rules))  -- offset_bounds-present-first-2
+    (λ c. search (parting, kind-flag, rules))  -- slice_bounds-row_lines-count
+    (λ c. search (parting, kind-flag, rules))  -- slice_bounds-row_lines-start
+    (λ c. search (parting, kind-flag, rules))  -- slice_bounds-row_lines-end
+    (λ c. search (parting, kind-flag, rules))  -- offset_bounds-wanted-first-2
+    (λ c. search (parting, kind-flag, rules))  -- slice_bounds-row_lines-count-2
+    (λ c. search (parting, kind-flag, rules))  -- slice_bounds-row_lines-start-2
+    (λ c. search (parting, kind-flag, rules))  -- slice_bounds-row_lines-end-2
+    (λ c κs. search (parting, kind-flag, rules))  -- row_lines-requires
+    (λ c. search (parting, kind-flag, rules)))  -- returns

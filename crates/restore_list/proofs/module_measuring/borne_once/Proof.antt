@@ -9,13 +9,13 @@ pub borne_once_spec : {M : Type 1} → statement M
 borne_once_spec =
     tie.close
     (tie.spec
-    (λ c. search (bearing, label-place, rules))  -- add-start
-    (λ c. search (bearing, label-place, rules))  -- add-end
-    (λ c. search (bearing, label-place, rules))  -- sub-find-bearer
-    (λ c. search (bearing, label-place, rules))  -- part-find-bearer-start
-    (λ c. search (bearing, label-place, rules))  -- part-find-bearer-end
-    (λ c κs. search (bearing, label-place, rules))  -- find-bearer-requires
-    (λ c. search (bearing, label-place, rules))  -- enum-told
-    (λ c. search (bearing, label-place, rules))  -- enum-told-2
-    (λ c. search (bearing, label-place, rules))  -- returns
-    (λ c. search (bearing, label-place, rules)))  -- returns-2
+    (λ c. search (bearing, label-place, rules))  -- overflow_add-start
+    (λ c. search (bearing, label-place, rules))  -- overflow_add-end
+    (λ c. search (bearing, label-place, rules))  -- slice_bounds-find_bearer-count
+    (λ c. search (bearing, label-place, rules))  -- slice_bounds-find_bearer-start
+    (λ c. search (bearing, label-place, rules))  -- slice_bounds-find_bearer-end
+    (λ c κs. search (bearing, label-place, rules))  -- find_bearer-requires
+    (λ c. search (bearing, label-place, rules))  -- enum_told-1
+    (λ c. search (bearing, label-place, rules))  -- enum_told-in-NotOne
+    (λ c. search (bearing, label-place, rules))  -- returns-in-Only
+    (λ c. search (bearing, label-place, rules)))  -- returns-in-NotOne

@@ -18,19 +18,19 @@ row_lines_spec =
     (tie.spec
     invariant-loop-j
     decreases-loop-j
-    (λ c. search (row_measuring, rules))  -- loop-holds
-    (λ c. search (row_measuring, rules))  -- mul-from
-    (λ c. search (row_measuring, rules))  -- shared-slice-copy-out-from
-    (λ c. search (row_measuring, rules))  -- mul-to
-    (λ c. search (row_measuring, rules))  -- shared-slice-copy-out-to
-    (λ c. search (row_measuring, rules))  -- add-j
-    (λ c. search (row_measuring, rules))  -- loop-less
-    (λ c. search (row_measuring, rules))  -- loop-again
-    (λ c κs. search (row_measuring, rules))  -- row-of-requires
-    (λ c. search (row_measuring, rules))  -- returns
-    (λ c κs. search (row_measuring, rules))  -- say-line-length-requires
-    (λ c. search (row_measuring, rules))  -- add-bytes
-    (λ c. search (row_measuring, rules))  -- add-lines
-    (λ c. search (row_measuring, rules))  -- loop-less-2
-    (λ c. search (row_measuring, rules))  -- loop-again-2
-    (λ c. search (row_measuring, rules)))  -- returns-2
+    (λ c. search (row_measuring, rules))  -- loop-j-init
+    (λ c. search (row_measuring, rules))  -- offset_bounds-present-number
+    (λ c. search (row_measuring, rules))  -- bounds-present-number
+    (λ c. search (row_measuring, rules))  -- offset_bounds-wanted-number
+    (λ c. search (row_measuring, rules))  -- bounds-wanted-number
+    (λ c. search (row_measuring, rules))  -- overflow_add-j
+    (λ c. search (row_measuring, rules))  -- loop-j-smaller-then-from-to
+    (λ c. search (row_measuring, rules))  -- loop-j-preserved-then-from-to
+    (λ c κs. search (row_measuring, rules))  -- row_of-row-requires
+    (λ c. search (row_measuring, rules))  -- returns-then-not-row
+    (λ c κs. search (row_measuring, rules))  -- say_line_length-bytes-requires
+    (λ c. search (row_measuring, rules))  -- overflow_add-bytes
+    (λ c. search (row_measuring, rules))  -- overflow_add-lines
+    (λ c. search (row_measuring, rules))  -- loop-j-smaller
+    (λ c. search (row_measuring, rules))  -- loop-j-preserved
+    (λ c. search (row_measuring, rules)))  -- returns

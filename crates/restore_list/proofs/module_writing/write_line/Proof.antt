@@ -8,10 +8,10 @@ pub write_line_spec : {M : Type 1} → statement M
 write_line_spec =
     tie.close
     (tie.spec
-    (λ c. search (lending, rules))  -- sub-put-say-line
-    (λ c. search (lending, rules))  -- part-put-say-line-start
-    (λ c. search (lending, rules))  -- part-put-say-line-end
-    (λ c κs. search (lending, rules))  -- put-say-line-requires
-    (λ c. search (lending, rules))  -- add-result
-    (λ c. search (lending, rules))  -- same-length
+    (λ c. search (lending, rules))  -- slice_bounds-put_say_line-count
+    (λ c. search (lending, rules))  -- slice_bounds-put_say_line-start
+    (λ c. search (lending, rules))  -- slice_bounds-put_say_line-end
+    (λ c κs. search (lending, rules))  -- put_say_line-requires
+    (λ c. search (lending, rules))  -- overflow_add-result
+    (λ c. search (lending, rules))  -- shape_of-list
     (λ c. search (lending, rules)))  -- returns

@@ -18,17 +18,17 @@ write_rows_spec =
     (tie.spec
     invariant-loop-j
     decreases-loop-j
-    (λ c. search (row_putting, rules))  -- loop-holds
-    (λ c. search (row_putting, rules))  -- mul-from
-    (λ c. search (row_putting, rules))  -- shared-slice-copy-out-from
-    (λ c. search (row_putting, rules))  -- mul-to
-    (λ c. search (row_putting, rules))  -- shared-slice-copy-out-to
-    (λ c. search (row_putting, rules))  -- add-j
-    (λ c. search (row_putting, rules))  -- loop-less
-    (λ c. search (row_putting, rules))  -- loop-again
-    (λ c κs. search (row_putting, rules))  -- row-of-requires
-    (λ c κs. search (row_putting, rules))  -- write-line-requires
-    (λ c. search (row_putting, rules))  -- loop-less-2
-    (λ c. search (row_putting, rules))  -- loop-again-2
-    (λ c. search (row_putting, rules))  -- same-length
+    (λ c. search (row_putting, rules))  -- loop-j-init
+    (λ c. search (row_putting, rules))  -- offset_bounds-present-number
+    (λ c. search (row_putting, rules))  -- bounds-present-number
+    (λ c. search (row_putting, rules))  -- offset_bounds-wanted-number
+    (λ c. search (row_putting, rules))  -- bounds-wanted-number
+    (λ c. search (row_putting, rules))  -- overflow_add-j
+    (λ c. search (row_putting, rules))  -- loop-j-smaller-then-from-to
+    (λ c. search (row_putting, rules))  -- loop-j-preserved-then-from-to
+    (λ c κs. search (row_putting, rules))  -- row_of-requires
+    (λ c κs. search (row_putting, rules))  -- write_line-at-requires
+    (λ c. search (row_putting, rules))  -- loop-j-smaller
+    (λ c. search (row_putting, rules))  -- loop-j-preserved
+    (λ c. search (row_putting, rules))  -- shape_of-list
     (λ c. search (row_putting, rules)))  -- returns

@@ -28,38 +28,38 @@ find_bearer_spec =
     decreases-loop-i
     invariant-records
     decreases-records
-    (λ c κs. search (seeking, walking, rules))  -- label-right-requires
-    (λ c. search (seeking, walking, rules))  -- returns
-    (λ c. search (seeking, walking, rules))  -- records-holds
-    (λ c. search (seeking, walking, rules))  -- add-label
-    (λ c κs. search (seeking, walking, rules))  -- layout-at-requires
-    (λ c. search (seeking, walking, rules))  -- add-number
-    (λ c κs. search (seeking, walking, rules))  -- row-count-requires
-    (λ c. search (seeking, walking, rules))  -- add-first
-    (λ c κs. search (seeking, walking, rules))  -- body-length-requires
-    (λ c. search (seeking, walking, rules))  -- add-place
-    (λ c. search (seeking, walking, rules))  -- loop-holds
-    (λ c. search (seeking, walking, rules))  -- sub-i
-    (λ c. search (seeking, walking, rules))  -- add-if3
-    (λ c. search (seeking, walking, rules))  -- shared-slice-read-if3
-    (λ c. search (seeking, walking, rules))  -- shared-slice-read-if3-2
-    (λ c. search (seeking, walking, rules))  -- records-less
-    (λ c. search (seeking, walking, rules))  -- records-again
-    (λ c. search (seeking, walking, rules))  -- loop-less
-    (λ c. search (seeking, walking, rules))  -- loop-again
-    (λ c. search (seeking, walking, rules))  -- add-if5
-    (λ c. search (seeking, walking, rules))  -- shared-slice-read-if5
-    (λ c. search (seeking, walking, rules))  -- records-less-2
-    (λ c. search (seeking, walking, rules))  -- records-again-2
-    (λ c. search (seeking, walking, rules))  -- enum-told
-    (λ c. search (seeking, walking, rules))  -- enum-told-2
-    (λ c. search (seeking, walking, rules))  -- records-less-3
+    (λ c κs. search (seeking, walking, rules))  -- label_right-requires
+    (λ c. search (seeking, walking, rules))  -- returns-then-not-label_right
+    (λ c. search (seeking, walking, rules))  -- records-init
+    (λ c. search (seeking, walking, rules))  -- overflow_add-label
+    (λ c κs. search (seeking, walking, rules))  -- layout_at-layout-requires
+    (λ c. search (seeking, walking, rules))  -- overflow_add-number
+    (λ c κs. search (seeking, walking, rules))  -- row_count-first-requires
+    (λ c. search (seeking, walking, rules))  -- overflow_add-first
+    (λ c κs. search (seeking, walking, rules))  -- body_length-requires
+    (λ c. search (seeking, walking, rules))  -- overflow_add-place
+    (λ c. search (seeking, walking, rules))  -- loop-i-init
+    (λ c. search (seeking, walking, rules))  -- overflow_sub-i
+    (λ c. search (seeking, walking, rules))  -- overflow_add-label-in-loop-i
+    (λ c. search (seeking, walking, rules))  -- bounds-table-label
+    (λ c. search (seeking, walking, rules))  -- bounds-text-i
+    (λ c. search (seeking, walking, rules))  -- records-smaller-then-table-label
+    (λ c. search (seeking, walking, rules))  -- records-preserved-then-table-label
+    (λ c. search (seeking, walking, rules))  -- loop-i-smaller
+    (λ c. search (seeking, walking, rules))  -- loop-i-preserved
+    (λ c. search (seeking, walking, rules))  -- overflow_add-label-then-size-lt32
+    (λ c. search (seeking, walking, rules))  -- bounds-table-label-then-size-lt32
+    (λ c. search (seeking, walking, rules))  -- records-smaller-then-table-label-ne0
+    (λ c. search (seeking, walking, rules))  -- records-preserved-then-table-label-ne0
+    (λ c. search (seeking, walking, rules))  -- enum_told-1
+    (λ c. search (seeking, walking, rules))  -- enum_told-in_default
+    (λ c. search (seeking, walking, rules))  -- records-smaller
     (λ c. elim c.else-size-lt32.branch [
       | else-size-lt32-via-then-size-lt32+else-table-label-ne0 w ↦ search (seeking, walking, rules)
       | else-size-lt32-via-else-size-lt32 w ↦ search (seeking, walking, rules)
-    ])  -- records-again-3
-    (λ c. search (seeking, walking, rules))  -- returns-2
+    ])  -- records-preserved
+    (λ c. search (seeking, walking, rules))  -- returns-then-table-place
     (λ c. elim c.else-size-lt32.branch [
       | else-size-lt32-via-then-size-lt32+else-table-label-ne0 w ↦ search (seeking, walking, rules)
       | else-size-lt32-via-else-size-lt32 w ↦ search (seeking, walking, rules)
-    ]))  -- returns-3
+    ]))  -- returns-in-Only

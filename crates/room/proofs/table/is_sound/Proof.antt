@@ -18,17 +18,17 @@ is_sound_spec =
     (tie.spec
     invariant-loop-place
     decreases-loop-place
-    (λ c. search (checking, rules))  -- loop-holds
-    (λ c. search (checking, rules))  -- returns
-    (λ c. search (checking, rules))  -- shared-slice-read-kind
-    (λ c. search (checking, rules))  -- add-body
-    (λ c. search (checking, rules))  -- sub-sound-length
-    (λ c. search (checking, rules))  -- part-sound-length-start
-    (λ c. search (checking, rules))  -- part-sound-length-end
-    (λ c κs. search (checking, rules))  -- sound-length-requires
-    (λ c. search (checking, rules))  -- returns-2
-    (λ c. search (checking, rules))  -- add-place
-    (λ c. search (checking, rules))  -- sub-left
-    (λ c. search (checking, rules))  -- loop-less
-    (λ c. search (checking, rules))  -- loop-again
-    (λ c. search (checking, rules)))  -- returns-3
+    (λ c. search (checking, rules))  -- loop-place-init
+    (λ c. search (checking, rules))  -- returns-then-left-eq0
+    (λ c. search (checking, rules))  -- bounds-table-place
+    (λ c. search (checking, rules))  -- overflow_add-body
+    (λ c. search (checking, rules))  -- slice_bounds-sound_length-count
+    (λ c. search (checking, rules))  -- slice_bounds-sound_length-start
+    (λ c. search (checking, rules))  -- slice_bounds-sound_length-end
+    (λ c κs. search (checking, rules))  -- sound_length-size-requires
+    (λ c. search (checking, rules))  -- returns-then-size-eq0
+    (λ c. search (checking, rules))  -- overflow_add-place
+    (λ c. search (checking, rules))  -- overflow_sub-left
+    (λ c. search (checking, rules))  -- loop-place-smaller
+    (λ c. search (checking, rules))  -- loop-place-preserved
+    (λ c. search (checking, rules)))  -- returns

@@ -19,17 +19,17 @@ module_at_spec =
     (tie.spec
     invariant-loop-place
     decreases-loop-place
-    (λ c. search (reaching, walking, rules))  -- loop-holds
-    (λ c κs. search (reaching, walking, rules))  -- layout-at-requires
-    (λ c. search (reaching, walking, rules))  -- returns
-    (λ c. search (reaching, walking, rules))  -- add-at
-    (λ c κs. search (reaching, walking, rules))  -- layout-at-requires-2
-    (λ c κs. search (reaching, walking, rules))  -- row-count-requires
-    (λ c. search (reaching, walking, rules))  -- add-first
-    (λ c. search (reaching, walking, rules))  -- add-place
-    (λ c. search (reaching, walking, rules))  -- shared-slice-read-body-length
-    (λ c κs. search (reaching, walking, rules))  -- body-length-requires
-    (λ c. search (reaching, walking, rules))  -- add-place-2
-    (λ c. search (reaching, walking, rules))  -- loop-less
-    (λ c. search (reaching, walking, rules))  -- loop-again
-    (λ c. search (reaching, walking, rules)))  -- returns-2
+    (λ c. search (reaching, walking, rules))  -- loop-place-init
+    (λ c κs. search (reaching, walking, rules))  -- layout_at-layout-requires
+    (λ c. search (reaching, walking, rules))  -- returns-then-at-number
+    (λ c. search (reaching, walking, rules))  -- overflow_add-at
+    (λ c κs. search (reaching, walking, rules))  -- layout_at-requires
+    (λ c κs. search (reaching, walking, rules))  -- row_count-first-requires
+    (λ c. search (reaching, walking, rules))  -- overflow_add-first
+    (λ c. search (reaching, walking, rules))  -- overflow_add-place
+    (λ c. search (reaching, walking, rules))  -- bounds-table-place
+    (λ c κs. search (reaching, walking, rules))  -- body_length-requires
+    (λ c. search (reaching, walking, rules))  -- overflow_add-place-in-loop-place
+    (λ c. search (reaching, walking, rules))  -- loop-place-smaller
+    (λ c. search (reaching, walking, rules))  -- loop-place-preserved
+    (λ c. search (reaching, walking, rules)))  -- returns

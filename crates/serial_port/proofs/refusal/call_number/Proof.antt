@@ -8,11 +8,11 @@ pub call_number_spec : {M : Type 1} → statement M
 call_number_spec =
     tie.close
     (tie.spec
-    (λ c κs. search (telling, rules))  -- check-requires
-    (λ c. search (telling, rules))  -- returns
-    (λ c κs. search (telling, rules))  -- values-number-requires
-    (λ c. search (telling, rules))  -- returns-2
-    (λ c κs. search (telling, rules))  -- reply-number-requires
-    (λ c. search (telling, rules))  -- returns-3
-    (λ c κs. search (telling, rules))  -- claim-number-requires
-    (λ c. search (telling, rules)))  -- returns-4
+    (λ c κs. search (telling, rules))  -- check-of_table-requires
+    (λ c. search (telling, rules))  -- returns-then-of_table-ne0
+    (λ c κs. search (telling, rules))  -- values_number-of_values-requires
+    (λ c. search (telling, rules))  -- returns-then-of_values-ne0
+    (λ c κs. search (telling, rules))  -- reply_number-of_reply-requires
+    (λ c. search (telling, rules))  -- returns-then-of_reply-ne0
+    (λ c κs. search (telling, rules))  -- claim_number-requires
+    (λ c. search (telling, rules)))  -- returns

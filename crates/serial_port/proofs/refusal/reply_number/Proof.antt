@@ -8,5 +8,5 @@ pub reply_number_spec : {M : Type 1} → statement M
 reply_number_spec =
     tie.close
     (tie.spec
-    (λ c. search (numbering, rules))  -- returns
-    (λ c. search (numbering, rules)))  -- returns-2
+    (λ c. search (numbering, rules))  -- returns-then-room-least
+    (λ c. search (numbering, rules)))  -- returns

@@ -19,22 +19,22 @@ serve_all_spec =
     (tie.spec
     invariant-loop-at
     decreases-loop-at
-    (λ c. search (serving, rules))  -- loop-holds
-    (λ c. search (serving, rules))  -- sub-if1
-    (λ c. search (serving, rules))  -- same-length
-    (λ c. search (serving, rules))  -- same-length-2
-    (λ c. search (serving, rules))  -- returns
-    (λ c. search (serving, rules))  -- sub-serve
-    (λ c. search (serving, rules))  -- part-serve-start
-    (λ c. search (serving, rules))  -- part-serve-end
-    (λ c. search (serving, rules))  -- sub-serve-2
-    (λ c. search (serving, rules))  -- part-serve-start-2
-    (λ c. search (serving, rules))  -- part-serve-end-2
-    (λ c κs. search (serving, rules))  -- serve-requires
-    (λ c. serving_at _ _ _ _ _ _ _ _ _ _ c.loop-at.invariant _ _ _ c.if-out-end-lt-REPLY.false c.serve-called.ensures)  -- add-at
-    (λ c. serving_end _ _ _ _ _ _ _ _ _ _ c.loop-at.invariant _ _ _ c.if-out-end-lt-REPLY.false c.serve-called.ensures)  -- add-end
-    (λ c. serving_less _ _ _ _ _ _ _ _ _ _ c.loop-at.invariant _ _ _ c.if-out-end-lt-REPLY.false c.serve-called.ensures c.loop-at-test.true)  -- loop-less
-    (λ c. serving_next _ _ _ _ _ _ _ _ _ _ c.loop-at.invariant _ _ _ c.if-out-end-lt-REPLY.false c.serve-called.ensures c.loop-at-test.true)  -- loop-again
-    (λ c. search (serving, rules))  -- same-length-3
-    (λ c. search (serving, rules))  -- same-length-4
-    (λ c. search (serving, rules)))  -- returns-2
+    (λ c. search (serving, rules))  -- loop-at-init
+    (λ c. search (serving, rules))  -- overflow_sub-out
+    (λ c. search (serving, rules))  -- shape_of-values-then-out-end-lt-REPLY
+    (λ c. search (serving, rules))  -- shape_of-out-then-out-end-lt-REPLY
+    (λ c. search (serving, rules))  -- returns-then-out-end-lt-REPLY
+    (λ c. search (serving, rules))  -- slice_bounds-serve-count
+    (λ c. search (serving, rules))  -- slice_bounds-serve-start
+    (λ c. search (serving, rules))  -- slice_bounds-serve-end
+    (λ c. search (serving, rules))  -- slice_bounds-serve-count-in-loop-at
+    (λ c. search (serving, rules))  -- slice_bounds-serve-start-in-loop-at
+    (λ c. search (serving, rules))  -- slice_bounds-serve-end-in-loop-at
+    (λ c κs. search (serving, rules))  -- serve-called-requires
+    (λ c. serving_at _ _ _ _ _ _ _ _ _ _ c.loop-at.invariant _ _ _ c.if-out-end-lt-REPLY.false c.serve-called.ensures)  -- overflow_add-at
+    (λ c. serving_end _ _ _ _ _ _ _ _ _ _ c.loop-at.invariant _ _ _ c.if-out-end-lt-REPLY.false c.serve-called.ensures)  -- overflow_add-end
+    (λ c. serving_less _ _ _ _ _ _ _ _ _ _ c.loop-at.invariant _ _ _ c.if-out-end-lt-REPLY.false c.serve-called.ensures c.loop-at-test.true)  -- loop-at-smaller
+    (λ c. serving_next _ _ _ _ _ _ _ _ _ _ c.loop-at.invariant _ _ _ c.if-out-end-lt-REPLY.false c.serve-called.ensures c.loop-at-test.true)  -- loop-at-preserved
+    (λ c. search (serving, rules))  -- shape_of-values
+    (λ c. search (serving, rules))  -- shape_of-out
+    (λ c. search (serving, rules)))  -- returns

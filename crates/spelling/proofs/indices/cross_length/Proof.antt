@@ -8,8 +8,8 @@ pub cross_length_spec : {M : Type 1} → statement M
 cross_length_spec =
     tie.close
     (tie.spec
-    (λ c κs. search (cross_lengths, rules))  -- number-length-requires
-    (λ c. search (cross_lengths, rules))  -- add-result
-    (λ c κs. search (cross_lengths, rules))  -- number-length-requires-2
-    (λ c. search (cross_lengths, rules))  -- add-result-2
+    (λ c κs. search (cross_lengths, rules))  -- number_length-requires
+    (λ c. search (cross_lengths, rules))  -- overflow_add-result
+    (λ c κs. search (cross_lengths, rules))  -- number_length-requires-2
+    (λ c. search (cross_lengths, rules))  -- overflow_add-result-2
     (λ c. search (cross_lengths, rules)))  -- returns

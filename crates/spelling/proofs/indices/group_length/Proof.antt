@@ -8,6 +8,6 @@ pub group_length_spec : {M : Type 1} → statement M
 group_length_spec =
     tie.close
     (tie.spec
-    (λ c κs. search (group_lengths, rules))  -- number-length-requires
-    (λ c. search (group_lengths, rules))  -- add-result
+    (λ c κs. search (group_lengths, rules))  -- number_length-requires
+    (λ c. search (group_lengths, rules))  -- overflow_add-result
     (λ c. search (group_lengths, rules)))  -- returns

@@ -8,13 +8,13 @@ pub index_length_spec : {M : Type 1} → statement M
 index_length_spec =
     tie.close
     (tie.spec
-    (λ c. search (index_lengths, rules))  -- enum-told
-    (λ c κs. search (index_lengths, rules))  -- row-length-requires
-    (λ c. search (index_lengths, rules))  -- enum-known-part
-    (λ c. search (index_lengths, rules))  -- enum-known-indices
-    (λ c κs. search (index_lengths, rules))  -- cross-length-requires
-    (λ c. search (index_lengths, rules))  -- enum-known-indices-2
-    (λ c κs. search (index_lengths, rules))  -- cross-length-requires-2
-    (λ c. search (index_lengths, rules))  -- returns
-    (λ c. search (index_lengths, rules))  -- returns-2
-    (λ c. search (index_lengths, rules)))  -- returns-3
+    (λ c. search (index_lengths, rules))  -- enum_told-1
+    (λ c κs. search (index_lengths, rules))  -- row_length-requires
+    (λ c. search (index_lengths, rules))  -- enum_known-part
+    (λ c. search (index_lengths, rules))  -- enum_known-indices
+    (λ c κs. search (index_lengths, rules))  -- cross_length-requires
+    (λ c. search (index_lengths, rules))  -- enum_known-indices-in-Output
+    (λ c κs. search (index_lengths, rules))  -- cross_length-requires-in-TwoGroups
+    (λ c. search (index_lengths, rules))  -- returns-in-Whole
+    (λ c. search (index_lengths, rules))  -- returns-in-OneGroup
+    (λ c. search (index_lengths, rules)))  -- returns-in-TwoGroups

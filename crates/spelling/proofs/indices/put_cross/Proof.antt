@@ -8,8 +8,8 @@ pub put_cross_spec : {M : Type 1} → statement M
 put_cross_spec =
     tie.close
     (tie.spec
-    (λ c. search (cross_writing, rules))  -- slice-aggregate-put-bytes
-    (λ c κs. search (cross_writing, rules))  -- put-bytes-requires
-    (λ c κs. search (cross_writing, rules))  -- put-pair-requires
-    (λ c. search (cross_writing, rules))  -- same-length
+    (λ c. search (cross_writing, rules))  -- slice_bounds-put_bytes-end
+    (λ c κs. search (cross_writing, rules))  -- put_bytes-next-requires
+    (λ c κs. search (cross_writing, rules))  -- put_pair-requires
+    (λ c. search (cross_writing, rules))  -- shape_of-buffer
     (λ c. search (cross_writing, rules)))  -- returns

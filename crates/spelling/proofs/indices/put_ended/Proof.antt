@@ -8,7 +8,7 @@ pub put_ended_spec : {M : Type 1} → statement M
 put_ended_spec =
     tie.close
     (tie.spec
-    (λ c κs. search (ended-writing, rules))  -- put-number-requires
-    (λ c κs. search (ended-writing, rules))  -- put-byte-requires
-    (λ c. search (ended-writing, rules))  -- same-length
+    (λ c κs. search (ended-writing, rules))  -- put_number-next-requires
+    (λ c κs. search (ended-writing, rules))  -- put_byte-requires
+    (λ c. search (ended-writing, rules))  -- shape_of-buffer
     (λ c. search (ended-writing, rules)))  -- returns

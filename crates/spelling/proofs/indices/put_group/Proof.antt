@@ -8,7 +8,7 @@ pub put_group_spec : {M : Type 1} → statement M
 put_group_spec =
     tie.close
     (tie.spec
-    (λ c κs. search (group_writing, rules))  -- put-byte-requires
-    (λ c κs. search (group_writing, rules))  -- put-number-requires
-    (λ c. search (group_writing, rules))  -- same-length
+    (λ c κs. search (group_writing, rules))  -- put_byte-next-requires
+    (λ c κs. search (group_writing, rules))  -- put_number-requires
+    (λ c. search (group_writing, rules))  -- shape_of-buffer
     (λ c. search (group_writing, rules)))  -- returns

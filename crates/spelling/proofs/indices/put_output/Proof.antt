@@ -8,11 +8,11 @@ pub put_output_spec : {M : Type 1} → statement M
 put_output_spec =
     tie.close
     (tie.spec
-    (λ c. search (output_writing, rules))  -- enum-known-indices
-    (λ c κs. search (output_writing, rules))  -- put-cross-requires
-    (λ c. search (output_writing, rules))  -- enum-known-indices-2
-    (λ c κs. search (output_writing, rules))  -- put-cross-requires-2
-    (λ c. search (output_writing, rules))  -- same-length
-    (λ c. search (output_writing, rules))  -- returns
-    (λ c. search (output_writing, rules))  -- same-length-2
-    (λ c. search (output_writing, rules)))  -- returns-2
+    (λ c. search (output_writing, rules))  -- enum_known-indices
+    (λ c κs. search (output_writing, rules))  -- put_cross-requires
+    (λ c. search (output_writing, rules))  -- enum_known-indices-in-TwoGroups-1
+    (λ c κs. search (output_writing, rules))  -- put_cross-requires-in-TwoGroups
+    (λ c. search (output_writing, rules))  -- shape_of-buffer-in-OneGroup
+    (λ c. search (output_writing, rules))  -- returns-in-OneGroup
+    (λ c. search (output_writing, rules))  -- shape_of-buffer-in-TwoGroups
+    (λ c. search (output_writing, rules)))  -- returns-in-TwoGroups

@@ -8,8 +8,8 @@ pub put_pair_spec : {M : Type 1} → statement M
 put_pair_spec =
     tie.close
     (tie.spec
-    (λ c κs. search (pair_writing, rules))  -- put-byte-requires
-    (λ c κs. search (pair_writing, rules))  -- put-ended-requires
-    (λ c κs. search (pair_writing, rules))  -- put-ended-requires-2
-    (λ c. search (pair_writing, rules))  -- same-length
+    (λ c κs. search (pair_writing, rules))  -- put_byte-opened-requires
+    (λ c κs. search (pair_writing, rules))  -- put_ended-divided-requires
+    (λ c κs. search (pair_writing, rules))  -- put_ended-requires
+    (λ c. search (pair_writing, rules))  -- shape_of-buffer
     (λ c. search (pair_writing, rules)))  -- returns

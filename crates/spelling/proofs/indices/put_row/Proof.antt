@@ -8,12 +8,12 @@ pub put_row_spec : {M : Type 1} → statement M
 put_row_spec =
     tie.close
     (tie.spec
-    (λ c. search (row_writing, rules))  -- enum-known-indices
-    (λ c κs. search (row_writing, rules))  -- put-group-requires
-    (λ c. search (row_writing, rules))  -- enum-known-indices-2
-    (λ c κs. search (row_writing, rules))  -- put-group-requires-2
-    (λ c κs. search (row_writing, rules))  -- put-group-requires-3
-    (λ c. search (row_writing, rules))  -- same-length
-    (λ c. search (row_writing, rules))  -- returns
-    (λ c. search (row_writing, rules))  -- same-length-2
-    (λ c. search (row_writing, rules)))  -- returns-2
+    (λ c. search (row_writing, rules))  -- enum_known-indices
+    (λ c κs. search (row_writing, rules))  -- put_group-requires
+    (λ c. search (row_writing, rules))  -- enum_known-indices-in-TwoGroups-1
+    (λ c κs. search (row_writing, rules))  -- put_group-next-requires
+    (λ c κs. search (row_writing, rules))  -- put_group-requires-in-TwoGroups
+    (λ c. search (row_writing, rules))  -- shape_of-buffer-in-OneGroup
+    (λ c. search (row_writing, rules))  -- returns-in-OneGroup
+    (λ c. search (row_writing, rules))  -- shape_of-buffer-in-TwoGroups
+    (λ c. search (row_writing, rules)))  -- returns-in-TwoGroups

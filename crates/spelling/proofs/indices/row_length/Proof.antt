@@ -8,11 +8,11 @@ pub row_length_spec : {M : Type 1} → statement M
 row_length_spec =
     tie.close
     (tie.spec
-    (λ c. search (row_lengths, rules))  -- enum-known-indices
-    (λ c κs. search (row_lengths, rules))  -- group-length-requires
-    (λ c. search (row_lengths, rules))  -- enum-known-indices-2
-    (λ c κs. search (row_lengths, rules))  -- group-length-requires-2
-    (λ c κs. search (row_lengths, rules))  -- group-length-requires-3
-    (λ c. search (row_lengths, rules))  -- add-result
-    (λ c. search (row_lengths, rules))  -- returns
-    (λ c. search (row_lengths, rules)))  -- returns-2
+    (λ c. search (row_lengths, rules))  -- enum_known-indices
+    (λ c κs. search (row_lengths, rules))  -- group_length-requires
+    (λ c. search (row_lengths, rules))  -- enum_known-indices-in-TwoGroups-1
+    (λ c κs. search (row_lengths, rules))  -- group_length-requires-in-TwoGroups
+    (λ c κs. search (row_lengths, rules))  -- group_length-requires-in-TwoGroups-2
+    (λ c. search (row_lengths, rules))  -- overflow_add-result
+    (λ c. search (row_lengths, rules))  -- returns-in-OneGroup
+    (λ c. search (row_lengths, rules)))  -- returns-in-TwoGroups

@@ -8,11 +8,11 @@ pub put_line_spec : {M : Type 1} → statement M
 put_line_spec =
     tie.close
     (tie.spec
-    (λ c. search (line_writing, rules))  -- enum-told
-    (λ c κs. search (line_writing, rules))  -- put-whole-requires
-    (λ c. search (line_writing, rules))  -- enum-known-part
-    (λ c κs. search (line_writing, rules))  -- put-output-line-requires
-    (λ c. search (line_writing, rules))  -- same-length
-    (λ c. search (line_writing, rules))  -- returns
-    (λ c. search (line_writing, rules))  -- same-length-2
-    (λ c. search (line_writing, rules)))  -- returns-2
+    (λ c. search (line_writing, rules))  -- enum_told-1
+    (λ c κs. search (line_writing, rules))  -- put_whole-requires
+    (λ c. search (line_writing, rules))  -- enum_known-part
+    (λ c κs. search (line_writing, rules))  -- put_output_line-requires
+    (λ c. search (line_writing, rules))  -- shape_of-buffer-in-Whole
+    (λ c. search (line_writing, rules))  -- returns-in-Whole
+    (λ c. search (line_writing, rules))  -- shape_of-buffer-in-Output
+    (λ c. search (line_writing, rules)))  -- returns-in-Output

@@ -8,8 +8,8 @@ pub put_output_line_spec : {M : Type 1} → statement M
 put_output_line_spec =
     tie.close
     (tie.spec
-    (λ c κs. search (output_writing, rules))  -- put-output-front-requires
-    (λ c κs. search (output_writing, rules))  -- put-bit-requires
-    (λ c κs. search (output_writing, rules))  -- put-byte-requires
-    (λ c. search (output_writing, rules))  -- same-length
+    (λ c κs. search (output_writing, rules))  -- put_output_front-next-requires
+    (λ c κs. search (output_writing, rules))  -- put_bit-told-requires
+    (λ c κs. search (output_writing, rules))  -- put_byte-requires
+    (λ c. search (output_writing, rules))  -- shape_of-buffer
     (λ c. search (output_writing, rules)))  -- returns

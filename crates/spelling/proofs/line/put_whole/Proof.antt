@@ -8,8 +8,8 @@ pub put_whole_spec : {M : Type 1} → statement M
 put_whole_spec =
     tie.close
     (tie.spec
-    (λ c κs. search (whole-writing, rules))  -- put-front-requires
-    (λ c κs. search (whole-writing, rules))  -- put-text-requires
-    (λ c κs. search (whole-writing, rules))  -- put-byte-requires
-    (λ c. search (whole-writing, rules))  -- same-length
+    (λ c κs. search (whole-writing, rules))  -- put_front-next-requires
+    (λ c κs. search (whole-writing, rules))  -- put_text-end-requires
+    (λ c κs. search (whole-writing, rules))  -- put_byte-requires
+    (λ c. search (whole-writing, rules))  -- shape_of-buffer
     (λ c. search (whole-writing, rules)))  -- returns

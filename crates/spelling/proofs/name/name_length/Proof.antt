@@ -8,7 +8,7 @@ pub name_length_spec : {M : Type 1} → statement M
 name_length_spec =
     tie.close
     (tie.spec
-    (λ c. search (name-lengths, rules))  -- add-result
-    (λ c κs. search (name-lengths, rules))  -- index-length-requires
-    (λ c. search (name-lengths, rules))  -- add-result-2
+    (λ c. search (name-lengths, rules))  -- overflow_add-result
+    (λ c κs. search (name-lengths, rules))  -- index_length-requires
+    (λ c. search (name-lengths, rules))  -- overflow_add-result-2
     (λ c. search (name-lengths, rules)))  -- returns

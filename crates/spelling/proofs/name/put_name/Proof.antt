@@ -8,7 +8,7 @@ pub put_name_spec : {M : Type 1} → statement M
 put_name_spec =
     tie.close
     (tie.spec
-    (λ c κs. search (name-writing, rules))  -- put-quoted-requires
-    (λ c κs. search (name-writing, rules))  -- put-row-requires
-    (λ c. search (name-writing, rules))  -- same-length
+    (λ c κs. search (name-writing, rules))  -- put_quoted-next-requires
+    (λ c κs. search (name-writing, rules))  -- put_row-requires
+    (λ c. search (name-writing, rules))  -- shape_of-buffer
     (λ c. search (name-writing, rules)))  -- returns

@@ -8,9 +8,9 @@ pub put_output_front_spec : {M : Type 1} → statement M
 put_output_front_spec =
     tie.close
     (tie.spec
-    (λ c. search (front-writing, rules))  -- slice-aggregate-put-bytes
-    (λ c κs. search (front-writing, rules))  -- put-bytes-requires
-    (λ c κs. search (front-writing, rules))  -- put-output-name-requires
-    (λ c κs. search (front-writing, rules))  -- put-byte-requires
-    (λ c. search (front-writing, rules))  -- same-length
+    (λ c. search (front-writing, rules))  -- slice_bounds-put_bytes-end
+    (λ c κs. search (front-writing, rules))  -- put_bytes-begun-requires
+    (λ c κs. search (front-writing, rules))  -- put_output_name-paired-requires
+    (λ c κs. search (front-writing, rules))  -- put_byte-requires
+    (λ c. search (front-writing, rules))  -- shape_of-buffer
     (λ c. search (front-writing, rules)))  -- returns

@@ -9,12 +9,12 @@ pub put_get_spec : {M : Type 1} → statement M
 put_get_spec =
     tie.close
     (tie.spec
-    (λ c κs. search (get_writing, label-long, rules))  -- label-length-requires
-    (λ c. search (get_writing, label-long, rules))  -- enum-told
-    (λ c κs. search (get_writing, label-long, rules))  -- put-whole-requires
-    (λ c. search (get_writing, label-long, rules))  -- enum-told-2
-    (λ c κs. search (get_writing, label-long, rules))  -- put-line-requires
-    (λ c. search (get_writing, label-long, rules))  -- same-length
-    (λ c. search (get_writing, label-long, rules))  -- returns
-    (λ c. search (get_writing, label-long, rules))  -- same-length-2
-    (λ c. search (get_writing, label-long, rules)))  -- returns-2
+    (λ c κs. search (get_writing, label-long, rules))  -- label_length-size-requires
+    (λ c. search (get_writing, label-long, rules))  -- enum_told-1
+    (λ c κs. search (get_writing, label-long, rules))  -- put_whole-requires
+    (λ c. search (get_writing, label-long, rules))  -- enum_told-in-Output
+    (λ c κs. search (get_writing, label-long, rules))  -- put_line-requires
+    (λ c. search (get_writing, label-long, rules))  -- shape_of-reply-in-Whole
+    (λ c. search (get_writing, label-long, rules))  -- returns-in-Whole
+    (λ c. search (get_writing, label-long, rules))  -- shape_of-reply-in-Output
+    (λ c. search (get_writing, label-long, rules)))  -- returns-in-Output

@@ -8,5 +8,5 @@ pub output_or_spec : {M : Type 1} → statement M
 output_or_spec =
     tie.close
     (tie.spec
-    (λ c. search (output_or_lem, rules))  -- returns
-    (λ c. search (output_or_lem, rules)))  -- returns-2
+    (λ c. search (output_or_lem, rules))  -- returns-then-output-eq0
+    (λ c. search (output_or_lem, rules)))  -- returns

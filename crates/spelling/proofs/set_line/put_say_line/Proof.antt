@@ -8,7 +8,7 @@ pub put_say_line_spec : {M : Type 1} → statement M
 put_say_line_spec =
     tie.close
     (tie.spec
-    (λ c κs. search (say-writing, rules))  -- said-part-requires
-    (λ c κs. search (say-writing, rules))  -- put-line-requires
-    (λ c. search (say-writing, rules))  -- same-length
+    (λ c κs. search (say-writing, rules))  -- said_part-part-requires
+    (λ c κs. search (say-writing, rules))  -- put_line-requires
+    (λ c. search (say-writing, rules))  -- shape_of-buffer
     (λ c. search (say-writing, rules)))  -- returns

@@ -8,6 +8,6 @@ pub put_whole_line_spec : {M : Type 1} → statement M
 put_whole_line_spec =
     tie.close
     (tie.spec
-    (λ c κs. search (whole-writing, rules))  -- put-whole-requires
-    (λ c. search (whole-writing, rules))  -- same-length
+    (λ c κs. search (whole-writing, rules))  -- put_whole-requires
+    (λ c. search (whole-writing, rules))  -- shape_of-buffer
     (λ c. search (whole-writing, rules)))  -- returns

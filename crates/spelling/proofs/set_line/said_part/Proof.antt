@@ -8,15 +8,15 @@ pub said_part_spec : {M : Type 1} → statement M
 said_part_spec =
     tie.close
     (tie.spec
-    (λ c. search (saying, rules))  -- enum-told
-    (λ c. search (saying, rules))  -- enum-told-2
-    (λ c. search (saying, rules))  -- enum-told-3
-    (λ c. search (saying, rules))  -- enum-told-4
+    (λ c. search (saying, rules))  -- enum_told-1
+    (λ c. search (saying, rules))  -- enum_told-in-Switch
+    (λ c. search (saying, rules))  -- enum_told-in-Number
+    (λ c. search (saying, rules))  -- enum_told-in-Word
     (λ c κs. search (saying, rules))  -- magnitude-requires
-    (λ c κs. search (saying, rules))  -- magnitude-requires-2
-    (λ c κs. search (saying, rules))  -- only-differing-requires
-    (λ c κs. search (saying, rules))  -- output-or-requires
-    (λ c. search (saying, rules))  -- returns
-    (λ c. search (saying, rules))  -- returns-2
-    (λ c. search (saying, rules))  -- returns-3
-    (λ c. search (saying, rules)))  -- returns-4
+    (λ c κs. search (saying, rules))  -- magnitude-requires-in-Word
+    (λ c κs. search (saying, rules))  -- only_differing-requires
+    (λ c κs. search (saying, rules))  -- output_or-requires
+    (λ c. search (saying, rules))  -- returns-in-Level
+    (λ c. search (saying, rules))  -- returns-in-Switch
+    (λ c. search (saying, rules))  -- returns-in-Number
+    (λ c. search (saying, rules)))  -- returns-in-Word

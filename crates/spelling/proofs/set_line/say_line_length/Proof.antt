@@ -8,9 +8,9 @@ pub say_line_length_spec : {M : Type 1} → statement M
 say_line_length_spec =
     tie.close
     (tie.spec
-    (λ c κs. search (line_length_is, rules))  -- said-part-requires
-    (λ c κs. search (line_length_is, rules))  -- name-length-requires
-    (λ c. search (line_length_is, rules))  -- add-result
-    (λ c κs. search (line_length_is, rules))  -- part-length-requires
-    (λ c. search (line_length_is, rules))  -- add-result-2
+    (λ c κs. search (line_length_is, rules))  -- said_part-part-requires
+    (λ c κs. search (line_length_is, rules))  -- name_length-requires
+    (λ c. search (line_length_is, rules))  -- overflow_add-result
+    (λ c κs. search (line_length_is, rules))  -- part_length-requires
+    (λ c. search (line_length_is, rules))  -- overflow_add-result-2
     (λ c. search (line_length_is, rules)))  -- returns

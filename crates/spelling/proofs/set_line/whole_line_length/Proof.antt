@@ -8,8 +8,8 @@ pub whole_line_length_spec : {M : Type 1} → statement M
 whole_line_length_spec =
     tie.close
     (tie.spec
-    (λ c κs. search (whole-length_is, rules))  -- name-length-requires
-    (λ c. search (whole-length_is, rules))  -- add-result
-    (λ c κs. search (whole-length_is, rules))  -- text-length-requires
-    (λ c. search (whole-length_is, rules))  -- add-result-2
+    (λ c κs. search (whole-length_is, rules))  -- name_length-requires
+    (λ c. search (whole-length_is, rules))  -- overflow_add-result
+    (λ c κs. search (whole-length_is, rules))  -- text_length-requires
+    (λ c. search (whole-length_is, rules))  -- overflow_add-result-2
     (λ c. search (whole-length_is, rules)))  -- returns

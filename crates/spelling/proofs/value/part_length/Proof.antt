@@ -8,8 +8,8 @@ pub part_length_spec : {M : Type 1} → statement M
 part_length_spec =
     tie.close
     (tie.spec
-    (λ c. search (part-lengths, rules))  -- enum-told
-    (λ c κs. search (part-lengths, rules))  -- text-length-requires
-    (λ c. search (part-lengths, rules))  -- enum-told-2
-    (λ c. search (part-lengths, rules))  -- returns
-    (λ c. search (part-lengths, rules)))  -- returns-2
+    (λ c. search (part-lengths, rules))  -- enum_told-1
+    (λ c κs. search (part-lengths, rules))  -- text_length-requires
+    (λ c. search (part-lengths, rules))  -- enum_told-in-Output
+    (λ c. search (part-lengths, rules))  -- returns-in-Whole
+    (λ c. search (part-lengths, rules)))  -- returns-in-Output

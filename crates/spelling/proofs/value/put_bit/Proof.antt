@@ -9,7 +9,7 @@ put_bit_spec =
     tie.close
     (tie.spec
     (λ c κs. search (bit-writing, rules))  -- magnitude-requires
-    (λ c κs. search (bit-writing, rules))  -- bit-of-requires
-    (λ c κs. search (bit-writing, rules))  -- put-switch-requires
-    (λ c. search (bit-writing, rules))  -- same-length
+    (λ c κs. search (bit-writing, rules))  -- bit_of-requires
+    (λ c κs. search (bit-writing, rules))  -- put_switch-requires
+    (λ c. search (bit-writing, rules))  -- shape_of-buffer
     (λ c. search (bit-writing, rules)))  -- returns

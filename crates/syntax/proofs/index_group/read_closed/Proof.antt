@@ -8,9 +8,9 @@ pub read_closed_spec : {M : Type 1} → statement M
 read_closed_spec =
     tie.close
     (tie.spec
-    (λ c κs. search (closing-rules, rules))  -- find-requires
-    (λ c. search (closing-rules, rules))  -- sub-if1
-    (λ c. search (closing-rules, rules))  -- slice-aggregate-read-numbers
-    (λ c κs. search (closing-rules, rules))  -- read-numbers-requires
-    (λ c. search (closing-rules, rules))  -- returns
-    (λ c. search (closing-rules, rules)))  -- returns-2
+    (λ c κs. search (closing-rules, rules))  -- find-end-requires
+    (λ c. search (closing-rules, rules))  -- overflow_sub-rest
+    (λ c. search (closing-rules, rules))  -- slice_bounds-read_numbers-end
+    (λ c κs. search (closing-rules, rules))  -- read_numbers-requires
+    (λ c. search (closing-rules, rules))  -- returns-then-rest-end-eq1
+    (λ c. search (closing-rules, rules)))  -- returns

@@ -8,9 +8,9 @@ pub read_group_spec : {M : Type 1} → statement M
 read_group_spec =
     tie.close
     (tie.spec
-    (λ c κs. search (group_rules, rules))  -- read-number-requires
-    (λ c. search (group_rules, rules))  -- enum-known-a
-    (λ c. search (group_rules, rules))  -- enum-told
-    (λ c κs. search (group_rules, rules))  -- read-pair-requires
-    (λ c. search (group_rules, rules))  -- returns
-    (λ c. search (group_rules, rules)))  -- returns-2
+    (λ c κs. search (group_rules, rules))  -- read_number-requires
+    (λ c. search (group_rules, rules))  -- enum_known-a
+    (λ c. search (group_rules, rules))  -- enum_told-1
+    (λ c κs. search (group_rules, rules))  -- read_pair-requires
+    (λ c. search (group_rules, rules))  -- returns-in-Value
+    (λ c. search (group_rules, rules)))  -- returns-in-Wrong

@@ -8,12 +8,12 @@ pub read_inside_spec : {M : Type 1} → statement M
 read_inside_spec =
     tie.close
     (tie.spec
-    (λ c κs. search (comma_rules, rules))  -- find-requires
-    (λ c. search (comma_rules, rules))  -- slice-aggregate-read-closed
-    (λ c. search (comma_rules, rules))  -- add-read-closed
-    (λ c. search (comma_rules, rules))  -- sub-read-closed
-    (λ c. search (comma_rules, rules))  -- part-read-closed-start
-    (λ c. search (comma_rules, rules))  -- part-read-closed-end
-    (λ c κs. search (comma_rules, rules))  -- read-closed-requires
-    (λ c. search (comma_rules, rules))  -- returns
-    (λ c. search (comma_rules, rules)))  -- returns-2
+    (λ c κs. search (comma_rules, rules))  -- find-comma-requires
+    (λ c. search (comma_rules, rules))  -- slice_bounds-read_closed-end
+    (λ c. search (comma_rules, rules))  -- overflow_add-comma
+    (λ c. search (comma_rules, rules))  -- slice_bounds-read_closed-count
+    (λ c. search (comma_rules, rules))  -- slice_bounds-read_closed-start
+    (λ c. search (comma_rules, rules))  -- slice_bounds-read_closed-end-then-comma-s
+    (λ c κs. search (comma_rules, rules))  -- read_closed-requires
+    (λ c. search (comma_rules, rules))  -- returns-then-comma-s
+    (λ c. search (comma_rules, rules)))  -- returns

@@ -8,12 +8,12 @@ pub read_numbers_spec : {M : Type 1} → statement M
 read_numbers_spec =
     tie.close
     (tie.spec
-    (λ c κs. search (number-rules, rules))  -- read-number-requires
-    (λ c. search (number-rules, rules))  -- enum-known-a
-    (λ c κs. search (number-rules, rules))  -- read-number-requires-2
-    (λ c. search (number-rules, rules))  -- enum-known-b
-    (λ c. search (number-rules, rules))  -- enum-told
-    (λ c. search (number-rules, rules))  -- enum-told-2
-    (λ c. search (number-rules, rules))  -- returns
-    (λ c. search (number-rules, rules))  -- returns-2
-    (λ c. search (number-rules, rules)))  -- returns-3
+    (λ c κs. search (number-rules, rules))  -- read_number-requires
+    (λ c. search (number-rules, rules))  -- enum_known-a
+    (λ c κs. search (number-rules, rules))  -- read_number-requires-in-Value
+    (λ c. search (number-rules, rules))  -- enum_known-b
+    (λ c. search (number-rules, rules))  -- enum_told-1
+    (λ c. search (number-rules, rules))  -- enum_told-in-Wrong
+    (λ c. search (number-rules, rules))  -- returns-in-Value-read_number
+    (λ c. search (number-rules, rules))  -- returns-in-Wrong-read_number
+    (λ c. search (number-rules, rules)))  -- returns-in-Wrong

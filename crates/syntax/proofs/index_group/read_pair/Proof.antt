@@ -8,11 +8,11 @@ pub read_pair_spec : {M : Type 1} → statement M
 read_pair_spec =
     tie.close
     (tie.spec
-    (λ c. search (pair_rules, rules))  -- returns
-    (λ c. search (pair_rules, rules))  -- shared-slice-read-if2
-    (λ c. search (pair_rules, rules))  -- sub-read-inside
-    (λ c. search (pair_rules, rules))  -- part-read-inside-start
-    (λ c. search (pair_rules, rules))  -- part-read-inside-end
-    (λ c κs. search (pair_rules, rules))  -- read-inside-requires
-    (λ c. search (pair_rules, rules))  -- returns-2
-    (λ c. search (pair_rules, rules)))  -- returns-3
+    (λ c. search (pair_rules, rules))  -- returns-then-s-eq0
+    (λ c. search (pair_rules, rules))  -- bounds-s-0
+    (λ c. search (pair_rules, rules))  -- slice_bounds-read_inside-count
+    (λ c. search (pair_rules, rules))  -- slice_bounds-read_inside-start
+    (λ c. search (pair_rules, rules))  -- slice_bounds-read_inside-end
+    (λ c κs. search (pair_rules, rules))  -- read_inside-requires
+    (λ c. search (pair_rules, rules))  -- returns-then-s-eq40
+    (λ c. search (pair_rules, rules)))  -- returns

@@ -8,13 +8,13 @@ pub read_groups_spec : {M : Type 1} → statement M
 read_groups_spec =
     tie.close
     (tie.spec
-    (λ c κs. search (groups-rules, rules))  -- find-requires
-    (λ c. search (groups-rules, rules))  -- slice-aggregate-read-two
-    (λ c. search (groups-rules, rules))  -- add-read-two
-    (λ c. search (groups-rules, rules))  -- sub-read-two
-    (λ c. search (groups-rules, rules))  -- part-read-two-start
-    (λ c. search (groups-rules, rules))  -- part-read-two-end
-    (λ c κs. search (groups-rules, rules))  -- read-two-requires
-    (λ c. search (groups-rules, rules))  -- returns
-    (λ c κs. search (groups-rules, rules))  -- read-one-requires
-    (λ c. search (groups-rules, rules)))  -- returns-2
+    (λ c κs. search (groups-rules, rules))  -- find-arrow-requires
+    (λ c. search (groups-rules, rules))  -- slice_bounds-read_two-end
+    (λ c. search (groups-rules, rules))  -- overflow_add-arrow
+    (λ c. search (groups-rules, rules))  -- slice_bounds-read_two-count
+    (λ c. search (groups-rules, rules))  -- slice_bounds-read_two-start
+    (λ c. search (groups-rules, rules))  -- slice_bounds-read_two-end-then-arrow-s
+    (λ c κs. search (groups-rules, rules))  -- read_two-requires
+    (λ c. search (groups-rules, rules))  -- returns-then-arrow-s
+    (λ c κs. search (groups-rules, rules))  -- read_one-requires
+    (λ c. search (groups-rules, rules)))  -- returns

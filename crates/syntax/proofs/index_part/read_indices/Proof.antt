@@ -8,11 +8,11 @@ pub read_indices_spec : {M : Type 1} → statement M
 read_indices_spec =
     tie.close
     (tie.spec
-    (λ c. search (indices-rules, rules))  -- returns
-    (λ c. search (indices-rules, rules))  -- shared-slice-read-if2
-    (λ c. search (indices-rules, rules))  -- sub-read-groups
-    (λ c. search (indices-rules, rules))  -- part-read-groups-start
-    (λ c. search (indices-rules, rules))  -- part-read-groups-end
-    (λ c κs. search (indices-rules, rules))  -- read-groups-requires
-    (λ c. search (indices-rules, rules))  -- returns-2
-    (λ c. search (indices-rules, rules)))  -- returns-3
+    (λ c. search (indices-rules, rules))  -- returns-then-part-eq0
+    (λ c. search (indices-rules, rules))  -- bounds-part-0
+    (λ c. search (indices-rules, rules))  -- slice_bounds-read_groups-count
+    (λ c. search (indices-rules, rules))  -- slice_bounds-read_groups-start
+    (λ c. search (indices-rules, rules))  -- slice_bounds-read_groups-end
+    (λ c κs. search (indices-rules, rules))  -- read_groups-requires
+    (λ c. search (indices-rules, rules))  -- returns-then-part-eq62
+    (λ c. search (indices-rules, rules)))  -- returns

@@ -8,9 +8,9 @@ pub read_one_spec : {M : Type 1} → statement M
 read_one_spec =
     tie.close
     (tie.spec
-    (λ c κs. search (one_rules, rules))  -- read-number-requires
-    (λ c. search (one_rules, rules))  -- enum-known-a
-    (λ c. search (one_rules, rules))  -- enum-told
-    (λ c κs. search (one_rules, rules))  -- read-one-pair-requires
-    (λ c. search (one_rules, rules))  -- returns
-    (λ c. search (one_rules, rules)))  -- returns-2
+    (λ c κs. search (one_rules, rules))  -- read_number-requires
+    (λ c. search (one_rules, rules))  -- enum_known-a
+    (λ c. search (one_rules, rules))  -- enum_told-1
+    (λ c κs. search (one_rules, rules))  -- read_one_pair-requires
+    (λ c. search (one_rules, rules))  -- returns-in-Value
+    (λ c. search (one_rules, rules)))  -- returns-in-Wrong

@@ -8,8 +8,8 @@ pub read_one_pair_spec : {M : Type 1} → statement M
 read_one_pair_spec =
     tie.close
     (tie.spec
-    (λ c κs. search (pair_rules, rules))  -- read-pair-requires
-    (λ c. search (pair_rules, rules))  -- enum-known-g
-    (λ c. search (pair_rules, rules))  -- enum-told
-    (λ c. search (pair_rules, rules))  -- returns
-    (λ c. search (pair_rules, rules)))  -- returns-2
+    (λ c κs. search (pair_rules, rules))  -- read_pair-requires
+    (λ c. search (pair_rules, rules))  -- enum_known-g
+    (λ c. search (pair_rules, rules))  -- enum_told-1
+    (λ c. search (pair_rules, rules))  -- returns-in-Right
+    (λ c. search (pair_rules, rules)))  -- returns-in-Wrong

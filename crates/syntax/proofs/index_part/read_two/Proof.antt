@@ -8,12 +8,12 @@ pub read_two_spec : {M : Type 1} → statement M
 read_two_spec =
     tie.close
     (tie.spec
-    (λ c κs. search (two_rules, rules))  -- read-group-requires
-    (λ c. search (two_rules, rules))  -- enum-known-g
-    (λ c κs. search (two_rules, rules))  -- read-group-requires-2
-    (λ c. search (two_rules, rules))  -- enum-known-h
-    (λ c. search (two_rules, rules))  -- enum-told
-    (λ c. search (two_rules, rules))  -- enum-told-2
-    (λ c. search (two_rules, rules))  -- returns
-    (λ c. search (two_rules, rules))  -- returns-2
-    (λ c. search (two_rules, rules)))  -- returns-3
+    (λ c κs. search (two_rules, rules))  -- read_group-requires
+    (λ c. search (two_rules, rules))  -- enum_known-g
+    (λ c κs. search (two_rules, rules))  -- read_group-requires-in-Right
+    (λ c. search (two_rules, rules))  -- enum_known-h
+    (λ c. search (two_rules, rules))  -- enum_told-1
+    (λ c. search (two_rules, rules))  -- enum_told-in-Wrong
+    (λ c. search (two_rules, rules))  -- returns-in-Right-read_group
+    (λ c. search (two_rules, rules))  -- returns-in-Wrong-read_group
+    (λ c. search (two_rules, rules)))  -- returns-in-Wrong

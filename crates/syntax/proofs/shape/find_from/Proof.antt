@@ -8,9 +8,9 @@ pub find_from_spec : {M : Type 1} → statement M
 find_from_spec =
     tie.close
     (tie.spec
-    (λ c. search (from_rules, rules))  -- sub-find
-    (λ c. search (from_rules, rules))  -- part-find-start
-    (λ c. search (from_rules, rules))  -- part-find-end
+    (λ c. search (from_rules, rules))  -- slice_bounds-find-count
+    (λ c. search (from_rules, rules))  -- slice_bounds-find-start
+    (λ c. search (from_rules, rules))  -- slice_bounds-find-end
     (λ c κs. search (from_rules, rules))  -- find-requires
-    (λ c. search (from_rules, rules))  -- add-result
+    (λ c. search (from_rules, rules))  -- overflow_add-result
     (λ c. search (from_rules, rules)))  -- returns

@@ -8,11 +8,11 @@ pub find_quotes_spec : {M : Type 1} → statement M
 find_quotes_spec =
     tie.close
     (tie.spec
-    (λ c κs. search (quotes-rules, rules))  -- opening-requires
-    (λ c. search (quotes-rules, rules))  -- returns
-    (λ c. search (quotes-rules, rules))  -- shared-slice-read-if2
-    (λ c. search (quotes-rules, rules))  -- returns-2
-    (λ c. search (quotes-rules, rules))  -- add-find-from
-    (λ c κs. search (quotes-rules, rules))  -- find-from-requires
-    (λ c. search (quotes-rules, rules))  -- returns-3
-    (λ c. search (quotes-rules, rules)))  -- returns-4
+    (λ c κs. search (quotes-rules, rules))  -- opening-quote-requires
+    (λ c. search (quotes-rules, rules))  -- returns-then-line-quote
+    (λ c. search (quotes-rules, rules))  -- bounds-line-quote
+    (λ c. search (quotes-rules, rules))  -- returns-then-line-quote-ne34
+    (λ c. search (quotes-rules, rules))  -- overflow_add-quote
+    (λ c κs. search (quotes-rules, rules))  -- find_from-close-requires
+    (λ c. search (quotes-rules, rules))  -- returns-then-close-line
+    (λ c. search (quotes-rules, rules)))  -- returns

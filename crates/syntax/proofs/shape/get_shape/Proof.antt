@@ -8,8 +8,8 @@ pub get_shape_spec : {M : Type 1} → statement M
 get_shape_spec =
     tie.close
     (tie.spec
-    (λ c κs. search (get_rules, rules))  -- find-quotes-requires
-    (λ c. search (get_rules, rules))  -- enum-known-quote
-    (λ c. search (get_rules, rules))  -- enum-known-cause
-    (λ c. search (get_rules, rules))  -- returns
-    (λ c. search (get_rules, rules)))  -- returns-2
+    (λ c κs. search (get_rules, rules))  -- find_quotes-requires
+    (λ c. search (get_rules, rules))  -- enum_known-quote
+    (λ c. search (get_rules, rules))  -- enum_known-cause
+    (λ c. search (get_rules, rules))  -- returns-in-At
+    (λ c. search (get_rules, rules)))  -- returns-in-Missing

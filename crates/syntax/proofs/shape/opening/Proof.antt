@@ -8,7 +8,7 @@ pub opening_spec : {M : Type 1} → statement M
 opening_spec =
     tie.close
     (tie.spec
-    (λ c. search (opening-rules, rules))  -- returns
-    (λ c. search (opening-rules, rules))  -- shared-slice-read-if2
-    (λ c. search (opening-rules, rules))  -- returns-2
-    (λ c. search (opening-rules, rules)))  -- returns-3
+    (λ c. search (opening-rules, rules))  -- returns-then-line-le2
+    (λ c. search (opening-rules, rules))  -- bounds-line-2
+    (λ c. search (opening-rules, rules))  -- returns-then-line-eq32
+    (λ c. search (opening-rules, rules)))  -- returns

@@ -8,11 +8,11 @@ pub set_shape_spec : {M : Type 1} → statement M
 set_shape_spec =
     tie.close
     (tie.spec
-    (λ c κs. search (set_rules, rules))  -- find-quotes-requires
-    (λ c. search (set_rules, rules))  -- enum-known-quote
-    (λ c. search (set_rules, rules))  -- add-find-from
-    (λ c κs. search (set_rules, rules))  -- find-from-requires
-    (λ c. search (set_rules, rules))  -- returns
-    (λ c. search (set_rules, rules))  -- enum-known-cause
-    (λ c. search (set_rules, rules))  -- returns-2
-    (λ c. search (set_rules, rules)))  -- returns-3
+    (λ c κs. search (set_rules, rules))  -- find_quotes-requires
+    (λ c. search (set_rules, rules))  -- enum_known-quote
+    (λ c. search (set_rules, rules))  -- overflow_add-close
+    (λ c κs. search (set_rules, rules))  -- find_from-equal-requires
+    (λ c. search (set_rules, rules))  -- returns-then-equal-line
+    (λ c. search (set_rules, rules))  -- enum_known-cause
+    (λ c. search (set_rules, rules))  -- returns-else-equal-line
+    (λ c. search (set_rules, rules)))  -- returns-in-Missing

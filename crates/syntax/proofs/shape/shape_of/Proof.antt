@@ -8,14 +8,14 @@ pub shape_of_spec : {M : Type 1} → statement M
 shape_of_spec =
     tie.close
     (tie.spec
-    (λ c. search (shape-rules, rules))  -- returns
-    (λ c. search (shape-rules, rules))  -- returns-2
-    (λ c. search (shape-rules, rules))  -- shared-slice-read-if3
-    (λ c. search (shape-rules, rules))  -- returns-3
-    (λ c. search (shape-rules, rules))  -- shared-slice-read-if4
-    (λ c κs. search (shape-rules, rules))  -- set-shape-requires
-    (λ c. search (shape-rules, rules))  -- returns-4
-    (λ c. search (shape-rules, rules))  -- shared-slice-read-if5
-    (λ c κs. search (shape-rules, rules))  -- get-shape-requires
-    (λ c. search (shape-rules, rules))  -- returns-5
-    (λ c. search (shape-rules, rules)))  -- returns-6
+    (λ c. search (shape-rules, rules))  -- returns-then-line-gt64
+    (λ c. search (shape-rules, rules))  -- returns-then-line-lt2
+    (λ c. search (shape-rules, rules))  -- bounds-line-1
+    (λ c. search (shape-rules, rules))  -- returns-then-line-ne65
+    (λ c. search (shape-rules, rules))  -- bounds-line-0
+    (λ c κs. search (shape-rules, rules))  -- set_shape-requires
+    (λ c. search (shape-rules, rules))  -- returns-then-line-eq83
+    (λ c. search (shape-rules, rules))  -- bounds-line-0-2
+    (λ c κs. search (shape-rules, rules))  -- get_shape-requires
+    (λ c. search (shape-rules, rules))  -- returns-then-line-eq71
+    (λ c. search (shape-rules, rules)))  -- returns

@@ -8,15 +8,15 @@ pub kind_value_spec : {M : Type 1} → statement M
 kind_value_spec =
     tie.close
     (tie.spec
-    (λ c. search (kind-rules, rules))  -- enum-told
-    (λ c κs. search (kind-rules, rules))  -- level-value-requires
-    (λ c. search (kind-rules, rules))  -- enum-told-2
-    (λ c κs. search (kind-rules, rules))  -- switch-value-requires
-    (λ c. search (kind-rules, rules))  -- enum-told-3
-    (λ c κs. search (kind-rules, rules))  -- number-value-requires
-    (λ c. search (kind-rules, rules))  -- enum-told-4
-    (λ c κs. search (kind-rules, rules))  -- word-value-requires
-    (λ c. search (kind-rules, rules))  -- returns
-    (λ c. search (kind-rules, rules))  -- returns-2
-    (λ c. search (kind-rules, rules))  -- returns-3
-    (λ c. search (kind-rules, rules)))  -- returns-4
+    (λ c. search (kind-rules, rules))  -- enum_told-1
+    (λ c κs. search (kind-rules, rules))  -- level_value-requires
+    (λ c. search (kind-rules, rules))  -- enum_told-in-Switch
+    (λ c κs. search (kind-rules, rules))  -- switch_value-requires
+    (λ c. search (kind-rules, rules))  -- enum_told-in-Number
+    (λ c κs. search (kind-rules, rules))  -- number_value-requires
+    (λ c. search (kind-rules, rules))  -- enum_told-in-Word
+    (λ c κs. search (kind-rules, rules))  -- word_value-requires
+    (λ c. search (kind-rules, rules))  -- returns-in-Level
+    (λ c. search (kind-rules, rules))  -- returns-in-Switch
+    (λ c. search (kind-rules, rules))  -- returns-in-Number
+    (λ c. search (kind-rules, rules)))  -- returns-in-Word

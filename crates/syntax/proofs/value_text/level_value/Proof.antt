@@ -8,8 +8,8 @@ pub level_value_spec : {M : Type 1} → statement M
 level_value_spec =
     tie.close
     (tie.spec
-    (λ c κs. search (level-rules, rules))  -- read-level-requires
-    (λ c. search (level-rules, rules))  -- enum-known-v
-    (λ c. search (level-rules, rules))  -- enum-told
-    (λ c. search (level-rules, rules))  -- returns
-    (λ c. search (level-rules, rules)))  -- returns-2
+    (λ c κs. search (level-rules, rules))  -- read_level-requires
+    (λ c. search (level-rules, rules))  -- enum_known-v
+    (λ c. search (level-rules, rules))  -- enum_told-1
+    (λ c. search (level-rules, rules))  -- returns-in-Tenths
+    (λ c. search (level-rules, rules)))  -- returns-in-Wrong

@@ -8,9 +8,9 @@ pub number_value_spec : {M : Type 1} → statement M
 number_value_spec =
     tie.close
     (tie.spec
-    (λ c κs. search (number-rules, rules))  -- read-number-requires
-    (λ c. search (number-rules, rules))  -- enum-known-n
-    (λ c. search (number-rules, rules))  -- cast-t5
-    (λ c. search (number-rules, rules))  -- enum-told
-    (λ c. search (number-rules, rules))  -- returns
-    (λ c. search (number-rules, rules)))  -- returns-2
+    (λ c κs. search (number-rules, rules))  -- read_number-requires
+    (λ c. search (number-rules, rules))  -- enum_known-n
+    (λ c. search (number-rules, rules))  -- overflow_cast-result
+    (λ c. search (number-rules, rules))  -- enum_told-1
+    (λ c. search (number-rules, rules))  -- returns-in-Value
+    (λ c. search (number-rules, rules)))  -- returns-in-Wrong

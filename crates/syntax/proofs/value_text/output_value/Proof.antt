@@ -8,14 +8,14 @@ pub output_value_spec : {M : Type 1} → statement M
 output_value_spec =
     tie.close
     (tie.spec
+    (λ c κs. search (output_rules, rules))  -- magnitude-word-requires
+    (λ c κs. search (output_rules, rules))  -- bit_of-had-requires
+    (λ c. search (output_rules, rules))  -- overflow_cast-had
+    (λ c κs. search (output_rules, rules))  -- switch_value-requires
+    (λ c. search (output_rules, rules))  -- enum_known-b
     (λ c κs. search (output_rules, rules))  -- magnitude-requires
-    (λ c κs. search (output_rules, rules))  -- bit-of-requires
-    (λ c. search (output_rules, rules))  -- cast-had
-    (λ c κs. search (output_rules, rules))  -- switch-value-requires
-    (λ c. search (output_rules, rules))  -- enum-known-b
-    (λ c κs. search (output_rules, rules))  -- magnitude-requires-2
-    (λ c κs. search (output_rules, rules))  -- with-bit-requires
-    (λ c. search (output_rules, rules))  -- cast-t12
-    (λ c. search (output_rules, rules))  -- enum-told
-    (λ c. search (output_rules, rules))  -- returns
-    (λ c. search (output_rules, rules)))  -- returns-2
+    (λ c κs. search (output_rules, rules))  -- with_bit-requires
+    (λ c. search (output_rules, rules))  -- overflow_cast-result
+    (λ c. search (output_rules, rules))  -- enum_told-1
+    (λ c. search (output_rules, rules))  -- returns-in-Value
+    (λ c. search (output_rules, rules)))  -- returns-in-Wrong

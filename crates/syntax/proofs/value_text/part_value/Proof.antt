@@ -8,9 +8,9 @@ pub part_value_spec : {M : Type 1} → statement M
 part_value_spec =
     tie.close
     (tie.spec
-    (λ c. search (part-rules, rules))  -- enum-told
-    (λ c κs. search (part-rules, rules))  -- kind-value-requires
-    (λ c. search (part-rules, rules))  -- enum-known-part
-    (λ c κs. search (part-rules, rules))  -- output-value-requires
-    (λ c. search (part-rules, rules))  -- returns
-    (λ c. search (part-rules, rules)))  -- returns-2
+    (λ c. search (part-rules, rules))  -- enum_told-1
+    (λ c κs. search (part-rules, rules))  -- kind_value-requires
+    (λ c. search (part-rules, rules))  -- enum_known-part
+    (λ c κs. search (part-rules, rules))  -- output_value-requires
+    (λ c. search (part-rules, rules))  -- returns-in-Whole
+    (λ c. search (part-rules, rules)))  -- returns-in-Output

@@ -8,11 +8,11 @@ pub read_value_spec : {M : Type 1} → statement M
 read_value_spec =
     tie.close
     (tie.spec
-    (λ c. search (value_rules, rules))  -- returns
-    (λ c κs. search (value_rules, rules))  -- kind-value-requires
-    (λ c. search (value_rules, rules))  -- enum-known-v
+    (λ c. search (value_rules, rules))  -- returns-then-not-settable
+    (λ c κs. search (value_rules, rules))  -- part_value-requires
+    (λ c. search (value_rules, rules))  -- enum_known-v
     (λ c κs. search (value_rules, rules))  -- permits-requires
-    (λ c. search (value_rules, rules))  -- returns-2
-    (λ c. search (value_rules, rules))  -- enum-told
-    (λ c. search (value_rules, rules))  -- returns-3
-    (λ c. search (value_rules, rules)))  -- returns-4
+    (λ c. search (value_rules, rules))  -- returns-then-permits
+    (λ c. search (value_rules, rules))  -- enum_told-1
+    (λ c. search (value_rules, rules))  -- returns-else-permits
+    (λ c. search (value_rules, rules)))  -- returns-in_default

@@ -8,13 +8,13 @@ pub switch_value_spec : {M : Type 1} → statement M
 switch_value_spec =
     tie.close
     (tie.spec
-    (λ c. search (switch-rules, rules))  -- sub-turned
-    (λ c κs. search (switch-rules, rules))  -- read-switch-requires
-    (λ c. search (switch-rules, rules))  -- enum-told
-    (λ c. search (switch-rules, rules))  -- enum-told-2
-    (λ c. search (switch-rules, rules))  -- enum-told-3
-    (λ c. search (switch-rules, rules))  -- enum-told-4
-    (λ c. search (switch-rules, rules))  -- returns
-    (λ c. search (switch-rules, rules))  -- returns-2
-    (λ c. search (switch-rules, rules))  -- returns-3
-    (λ c. search (switch-rules, rules)))  -- returns-4
+    (λ c. search (switch-rules, rules))  -- overflow_sub-turned
+    (λ c κs. search (switch-rules, rules))  -- read_switch-requires
+    (λ c. search (switch-rules, rules))  -- enum_told-1
+    (λ c. search (switch-rules, rules))  -- enum_told-in-Off
+    (λ c. search (switch-rules, rules))  -- enum_told-in-Turn
+    (λ c. search (switch-rules, rules))  -- enum_told-in-Wrong
+    (λ c. search (switch-rules, rules))  -- returns-in-On
+    (λ c. search (switch-rules, rules))  -- returns-in-Off
+    (λ c. search (switch-rules, rules))  -- returns-in-Turn
+    (λ c. search (switch-rules, rules)))  -- returns-in-Wrong

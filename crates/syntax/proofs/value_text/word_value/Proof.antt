@@ -8,9 +8,9 @@ pub word_value_spec : {M : Type 1} → statement M
 word_value_spec =
     tie.close
     (tie.spec
-    (λ c κs. search (word-rules, rules))  -- read-word-requires
-    (λ c. search (word-rules, rules))  -- enum-known-w
-    (λ c. search (word-rules, rules))  -- cast-t5
-    (λ c. search (word-rules, rules))  -- enum-told
-    (λ c. search (word-rules, rules))  -- returns
-    (λ c. search (word-rules, rules)))  -- returns-2
+    (λ c κs. search (word-rules, rules))  -- read_word-requires
+    (λ c. search (word-rules, rules))  -- enum_known-w
+    (λ c. search (word-rules, rules))  -- overflow_cast-result
+    (λ c. search (word-rules, rules))  -- enum_told-1
+    (λ c. search (word-rules, rules))  -- returns-in-Value
+    (λ c. search (word-rules, rules)))  -- returns-in-Wrong

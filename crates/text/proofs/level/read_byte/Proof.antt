@@ -8,22 +8,22 @@ pub read_byte_spec : {M : Type 1} → statement M
 read_byte_spec =
     tie.close
     (tie.spec
-    (λ c. search (byte_rules, rules))  -- enum-told
-    (λ c κs. search (byte_rules, rules))  -- read-start-requires
-    (λ c. search (byte_rules, rules))  -- enum-told-2
-    (λ c κs. search (byte_rules, rules))  -- read-first-requires
-    (λ c. search (byte_rules, rules))  -- enum-known-reading
-    (λ c κs. search (byte_rules, rules))  -- read-second-requires
-    (λ c. search (byte_rules, rules))  -- enum-known-reading-2
-    (λ c κs. search (byte_rules, rules))  -- read-point-requires
-    (λ c. search (byte_rules, rules))  -- enum-known-reading-3
-    (λ c κs. search (byte_rules, rules))  -- read-tenth-requires
-    (λ c. search (byte_rules, rules))  -- enum-told-3
-    (λ c. search (byte_rules, rules))  -- enum-told-4
-    (λ c. search (byte_rules, rules))  -- returns
-    (λ c. search (byte_rules, rules))  -- returns-2
-    (λ c. search (byte_rules, rules))  -- returns-3
-    (λ c. search (byte_rules, rules))  -- returns-4
-    (λ c. search (byte_rules, rules))  -- returns-5
-    (λ c. search (byte_rules, rules))  -- returns-6
-    (λ c. search (byte_rules, rules)))  -- returns-7
+    (λ c. search (byte_rules, rules))  -- enum_told-1
+    (λ c κs. search (byte_rules, rules))  -- read_start-requires
+    (λ c. search (byte_rules, rules))  -- enum_told-in-Sign
+    (λ c κs. search (byte_rules, rules))  -- read_first-requires
+    (λ c. search (byte_rules, rules))  -- enum_known-reading
+    (λ c κs. search (byte_rules, rules))  -- read_second-requires
+    (λ c. search (byte_rules, rules))  -- enum_known-reading-in-Digits-1
+    (λ c κs. search (byte_rules, rules))  -- read_point-requires
+    (λ c. search (byte_rules, rules))  -- enum_known-reading-in-Point-1
+    (λ c κs. search (byte_rules, rules))  -- read_tenth-requires
+    (λ c. search (byte_rules, rules))  -- enum_told-in-Tenth
+    (λ c. search (byte_rules, rules))  -- enum_told-in-Wrong
+    (λ c. search (byte_rules, rules))  -- returns-in-Start
+    (λ c. search (byte_rules, rules))  -- returns-in-Sign
+    (λ c. search (byte_rules, rules))  -- returns-in-Digit
+    (λ c. search (byte_rules, rules))  -- returns-in-Digits
+    (λ c. search (byte_rules, rules))  -- returns-in-Point
+    (λ c. search (byte_rules, rules))  -- returns-in-Tenth
+    (λ c. search (byte_rules, rules)))  -- returns-in-Wrong

@@ -8,22 +8,22 @@ pub read_end_spec : {M : Type 1} → statement M
 read_end_spec =
     tie.close
     (tie.spec
-    (λ c. search (end_rules, rules))  -- enum-told
-    (λ c. search (end_rules, rules))  -- enum-told-2
-    (λ c. search (end_rules, rules))  -- enum-known-reading
-    (λ c. search (end_rules, rules))  -- mul-with-sign
-    (λ c κs. search (end_rules, rules))  -- with-sign-requires
-    (λ c. search (end_rules, rules))  -- enum-known-reading-2
-    (λ c. search (end_rules, rules))  -- mul-with-sign-2
-    (λ c κs. search (end_rules, rules))  -- with-sign-requires-2
-    (λ c. search (end_rules, rules))  -- enum-told-3
-    (λ c. search (end_rules, rules))  -- enum-known-reading-3
-    (λ c κs. search (end_rules, rules))  -- with-sign-requires-3
-    (λ c. search (end_rules, rules))  -- enum-told-4
-    (λ c. search (end_rules, rules))  -- returns
-    (λ c. search (end_rules, rules))  -- returns-2
-    (λ c. search (end_rules, rules))  -- returns-3
-    (λ c. search (end_rules, rules))  -- returns-4
-    (λ c. search (end_rules, rules))  -- returns-5
-    (λ c. search (end_rules, rules))  -- returns-6
-    (λ c. search (end_rules, rules)))  -- returns-7
+    (λ c. search (end_rules, rules))  -- enum_told-1
+    (λ c. search (end_rules, rules))  -- enum_told-in-Sign
+    (λ c. search (end_rules, rules))  -- enum_known-reading
+    (λ c. search (end_rules, rules))  -- overflow_mul-whole
+    (λ c κs. search (end_rules, rules))  -- with_sign-requires
+    (λ c. search (end_rules, rules))  -- enum_known-reading-in-Digits-1
+    (λ c. search (end_rules, rules))  -- overflow_mul-whole-in-Digits
+    (λ c κs. search (end_rules, rules))  -- with_sign-requires-in-Digits
+    (λ c. search (end_rules, rules))  -- enum_told-in-Point
+    (λ c. search (end_rules, rules))  -- enum_known-reading-in-Tenth-1
+    (λ c κs. search (end_rules, rules))  -- with_sign-requires-in-Tenth
+    (λ c. search (end_rules, rules))  -- enum_told-in-Wrong
+    (λ c. search (end_rules, rules))  -- returns-in-Start
+    (λ c. search (end_rules, rules))  -- returns-in-Sign
+    (λ c. search (end_rules, rules))  -- returns-in-Digit
+    (λ c. search (end_rules, rules))  -- returns-in-Digits
+    (λ c. search (end_rules, rules))  -- returns-in-Point
+    (λ c. search (end_rules, rules))  -- returns-in-Tenth
+    (λ c. search (end_rules, rules)))  -- returns-in-Wrong

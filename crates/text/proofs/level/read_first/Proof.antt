@@ -8,7 +8,7 @@ pub read_first_spec : {M : Type 1} → statement M
 read_first_spec =
     tie.close
     (tie.spec
-    (λ c κs. search (first-rules, rules))  -- is-digit-requires
-    (λ c κs. search (first-rules, rules))  -- digit-of-requires
-    (λ c. search (first-rules, rules))  -- returns
-    (λ c. search (first-rules, rules)))  -- returns-2
+    (λ c κs. search (first-rules, rules))  -- is_digit-requires
+    (λ c κs. search (first-rules, rules))  -- digit_of-requires
+    (λ c. search (first-rules, rules))  -- returns-then-is_digit
+    (λ c. search (first-rules, rules)))  -- returns

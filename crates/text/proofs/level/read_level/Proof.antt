@@ -18,13 +18,13 @@ read_level_spec =
     (tie.spec
     invariant-loop-i
     decreases-loop-i
-    (λ c. search (level-rules, rules))  -- loop-holds
-    (λ c. search (level-rules, rules))  -- shared-slice-read-read-byte
-    (λ c κs. search (level-rules, rules))  -- read-byte-requires
-    (λ c. search (level-rules, rules))  -- enum-told
-    (λ c. search (level-rules, rules))  -- returns
-    (λ c. search (level-rules, rules))  -- add-i
-    (λ c. search (level-rules, rules))  -- loop-less
-    (λ c. search (level-rules, rules))  -- loop-again
-    (λ c κs. search (level-rules, rules))  -- read-end-requires
-    (λ c. search (level-rules, rules)))  -- returns-2
+    (λ c. search (level-rules, rules))  -- loop-i-init
+    (λ c. search (level-rules, rules))  -- bounds-s-i
+    (λ c κs. search (level-rules, rules))  -- read_byte-reading-requires
+    (λ c. search (level-rules, rules))  -- enum_told-1
+    (λ c. search (level-rules, rules))  -- returns-in-Wrong
+    (λ c. search (level-rules, rules))  -- overflow_add-i
+    (λ c. search (level-rules, rules))  -- loop-i-smaller
+    (λ c. search (level-rules, rules))  -- loop-i-preserved
+    (λ c κs. search (level-rules, rules))  -- read_end-requires
+    (λ c. search (level-rules, rules)))  -- returns

@@ -8,5 +8,5 @@ pub read_point_spec : {M : Type 1} → statement M
 read_point_spec =
     tie.close
     (tie.spec
-    (λ c. search (point_rules, rules))  -- returns
-    (λ c. search (point_rules, rules)))  -- returns-2
+    (λ c. search (point_rules, rules))  -- returns-then-b-eq46
+    (λ c. search (point_rules, rules)))  -- returns

@@ -8,10 +8,10 @@ pub read_second_spec : {M : Type 1} → statement M
 read_second_spec =
     tie.close
     (tie.spec
-    (λ c κs. search (second_rules, rules))  -- is-digit-requires
-    (λ c. search (second_rules, rules))  -- mul-t5
-    (λ c κs. search (second_rules, rules))  -- digit-of-requires
-    (λ c. search (second_rules, rules))  -- add-t7
-    (λ c. search (second_rules, rules))  -- returns
-    (λ c κs. search (second_rules, rules))  -- read-point-requires
-    (λ c. search (second_rules, rules)))  -- returns-2
+    (λ c κs. search (second_rules, rules))  -- is_digit-requires
+    (λ c. search (second_rules, rules))  -- overflow_mul-result
+    (λ c κs. search (second_rules, rules))  -- digit_of-requires
+    (λ c. search (second_rules, rules))  -- overflow_add-result
+    (λ c. search (second_rules, rules))  -- returns-then-is_digit
+    (λ c κs. search (second_rules, rules))  -- read_point-requires
+    (λ c. search (second_rules, rules)))  -- returns

@@ -8,6 +8,6 @@ pub read_start_spec : {M : Type 1} → statement M
 read_start_spec =
     tie.close
     (tie.spec
-    (λ c. search (start-rules, rules))  -- returns
-    (λ c κs. search (start-rules, rules))  -- read-first-requires
-    (λ c. search (start-rules, rules)))  -- returns-2
+    (λ c. search (start-rules, rules))  -- returns-then-b-eq45
+    (λ c κs. search (start-rules, rules))  -- read_first-requires
+    (λ c. search (start-rules, rules)))  -- returns

@@ -8,9 +8,9 @@ pub read_tenth_spec : {M : Type 1} → statement M
 read_tenth_spec =
     tie.close
     (tie.spec
-    (λ c κs. search (tenth_rules, rules))  -- is-digit-requires
-    (λ c. search (tenth_rules, rules))  -- mul-t5
-    (λ c κs. search (tenth_rules, rules))  -- digit-of-requires
-    (λ c. search (tenth_rules, rules))  -- add-t7
-    (λ c. search (tenth_rules, rules))  -- returns
-    (λ c. search (tenth_rules, rules)))  -- returns-2
+    (λ c κs. search (tenth_rules, rules))  -- is_digit-requires
+    (λ c. search (tenth_rules, rules))  -- overflow_mul-result
+    (λ c κs. search (tenth_rules, rules))  -- digit_of-requires
+    (λ c. search (tenth_rules, rules))  -- overflow_add-result
+    (λ c. search (tenth_rules, rules))  -- returns-then-is_digit
+    (λ c. search (tenth_rules, rules)))  -- returns

@@ -8,16 +8,16 @@ pub command_of_spec : {M : Type 1} → statement M
 command_of_spec =
     tie.close
     (tie.spec
-    (λ c. search (reading, rules))  -- shared-slice-read-if2
-    (λ c. search (reading, rules))  -- shared-slice-read-number-of
-    (λ c κs. search (reading, rules))  -- number-of-requires
-    (λ c. search (reading, rules))  -- returns
-    (λ c. search (reading, rules))  -- shared-slice-read-if3
-    (λ c. search (reading, rules))  -- shared-slice-read-number-of-2
-    (λ c κs. search (reading, rules))  -- number-of-requires-2
-    (λ c. search (reading, rules))  -- returns-2
-    (λ c. search (reading, rules))  -- returns-3
-    (λ c. search (reading, rules))  -- returns-4
-    (λ c. search (reading, rules))  -- shared-slice-read-if5
-    (λ c. search (reading, rules))  -- returns-5
-    (λ c. search (reading, rules)))  -- returns-6
+    (λ c. search (reading, rules))  -- bounds-bytes-0
+    (λ c. search (reading, rules))  -- bounds-bytes-1
+    (λ c κs. search (reading, rules))  -- number_of-requires
+    (λ c. search (reading, rules))  -- returns-then-bytes-eq111
+    (λ c. search (reading, rules))  -- bounds-bytes-0-then-bytes-eq2
+    (λ c. search (reading, rules))  -- bounds-bytes-1-then-bytes-eq99
+    (λ c κs. search (reading, rules))  -- number_of-requires-then-bytes-eq99
+    (λ c. search (reading, rules))  -- returns-then-bytes-eq99
+    (λ c. search (reading, rules))  -- returns-then-bytes-eq2
+    (λ c. search (reading, rules))  -- returns-then-bytes-lt33
+    (λ c. search (reading, rules))  -- bounds-bytes-0-2
+    (λ c. search (reading, rules))  -- returns-then-bytes-eq116
+    (λ c. search (reading, rules)))  -- returns

@@ -8,24 +8,24 @@ pub play_spec : {M : Type 1} → statement M
 play_spec =
     tie.close
     (tie.spec
-    (λ c κs. search (playing, rules))  -- command-of-requires
-    (λ c. search (playing, rules))  -- enum-told
-    (λ c. search (playing, rules))  -- enum-known-said
-    (λ c κs. search (playing, rules))  -- switch-of-requires
-    (λ c. search (playing, rules))  -- enum-told-2
-    (λ c. search (playing, rules))  -- sub-counts-of
-    (λ c. search (playing, rules))  -- part-counts-of-start
-    (λ c. search (playing, rules))  -- part-counts-of-end
-    (λ c κs. search (playing, rules))  -- counts-of-requires
-    (λ c. search (playing, rules))  -- sub-turn-of
-    (λ c. search (playing, rules))  -- part-turn-of-start
-    (λ c. search (playing, rules))  -- part-turn-of-end
-    (λ c. search (playing, rules))  -- slice-aggregate-turn-of
-    (λ c κs. search (playing, rules))  -- turn-of-requires
-    (λ c κs. search (playing, rules))  -- told-bytes-requires
-    (λ c κs. search (playing, rules))  -- last-after-requires
-    (λ c. search (playing, rules))  -- returns
-    (λ c. search (playing, rules))  -- returns-2
-    (λ c. search (playing, rules))  -- same-length
-    (λ c. search (playing, rules))  -- same-length-2
-    (λ c. search (playing, rules)))  -- returns-3
+    (λ c κs. search (playing, rules))  -- command_of-said-requires
+    (λ c. search (playing, rules))  -- enum_told-1
+    (λ c. search (playing, rules))  -- enum_known-said
+    (λ c κs. search (playing, rules))  -- switch_of-done-requires
+    (λ c. search (playing, rules))  -- enum_told-in-Turn
+    (λ c. search (playing, rules))  -- slice_bounds-counts_of-count
+    (λ c. search (playing, rules))  -- slice_bounds-counts_of-start
+    (λ c. search (playing, rules))  -- slice_bounds-counts_of-end
+    (λ c κs. search (playing, rules))  -- counts_of-counts-requires
+    (λ c. search (playing, rules))  -- slice_bounds-turn_of-count
+    (λ c. search (playing, rules))  -- slice_bounds-turn_of-start
+    (λ c. search (playing, rules))  -- slice_bounds-turn_of-end
+    (λ c. search (playing, rules))  -- slice_bounds-turn_of-end-in-Turn
+    (λ c κs. search (playing, rules))  -- turn_of-done-requires
+    (λ c κs. search (playing, rules))  -- told_bytes-told-requires
+    (λ c κs. search (playing, rules))  -- last_after-requires
+    (λ c. search (playing, rules))  -- returns-in-Nothing
+    (λ c. search (playing, rules))  -- returns-in-Switch
+    (λ c. search (playing, rules))  -- shape_of-values
+    (λ c. search (playing, rules))  -- shape_of-reply
+    (λ c. search (playing, rules)))  -- returns-in-Turn

@@ -8,9 +8,9 @@ pub fault_bytes_spec : {M : Type 1} → statement M
 fault_bytes_spec =
     tie.close
     (tie.spec
-    (λ c. search (faults, rules))  -- enum-told
-    (λ c. search (faults, rules))  -- enum-known-fault
-    (λ c κs. search (faults, rules))  -- cause-byte-requires
-    (λ c κs. search (faults, rules))  -- byte-of-requires
-    (λ c. search (faults, rules))  -- returns
-    (λ c. search (faults, rules)))  -- returns-2
+    (λ c. search (faults, rules))  -- enum_told-1
+    (λ c. search (faults, rules))  -- enum_known-fault
+    (λ c κs. search (faults, rules))  -- cause_byte-requires
+    (λ c κs. search (faults, rules))  -- byte_of-requires
+    (λ c. search (faults, rules))  -- returns-in-Nothing
+    (λ c. search (faults, rules)))  -- returns-in-At

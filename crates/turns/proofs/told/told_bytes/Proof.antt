@@ -8,15 +8,15 @@ pub told_bytes_spec : {M : Type 1} → statement M
 told_bytes_spec =
     tie.close
     (tie.spec
-    (λ c κs. search (telling, rules))  -- byte-of-requires
-    (λ c κs. search (telling, rules))  -- byte-of-requires-2
-    (λ c κs. search (telling, rules))  -- fault-bytes-requires
-    (λ c. search (telling, rules))  -- enum-told
-    (λ c. search (telling, rules))  -- array-read-t13
-    (λ c. search (telling, rules))  -- array-read-t16
-    (λ c. search (telling, rules))  -- enum-known-served
-    (λ c κs. search (telling, rules))  -- byte-of-requires-3
-    (λ c. search (telling, rules))  -- array-read-t19
-    (λ c. search (telling, rules))  -- array-read-t22
-    (λ c. search (telling, rules))  -- returns
-    (λ c. search (telling, rules)))  -- returns-2
+    (λ c κs. search (telling, rules))  -- byte_of-consumed-requires
+    (λ c κs. search (telling, rules))  -- byte_of-sent-requires
+    (λ c κs. search (telling, rules))  -- fault_bytes-fault-requires
+    (λ c. search (telling, rules))  -- enum_told-1
+    (λ c. search (telling, rules))  -- bounds-fault-0
+    (λ c. search (telling, rules))  -- bounds-fault-1
+    (λ c. search (telling, rules))  -- enum_known-served
+    (λ c κs. search (telling, rules))  -- byte_of-which-requires
+    (λ c. search (telling, rules))  -- bounds-fault-0-in-One
+    (λ c. search (telling, rules))  -- bounds-fault-1-in-One
+    (λ c. search (telling, rules))  -- returns-in-Nobody
+    (λ c. search (telling, rules)))  -- returns-in-One

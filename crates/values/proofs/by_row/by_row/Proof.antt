@@ -8,9 +8,9 @@ pub by_row_spec : {M : Type 1} → statement M
 by_row_spec =
     tie.close
     (tie.spec
-    (λ c κs. search (by_row_lem, rules))  -- module-at-requires
-    (λ c. search (by_row_lem, rules))  -- enum-known-m
-    (λ c κs. search (by_row_lem, rules))  -- own-parameter-requires
-    (λ c. search (by_row_lem, rules))  -- enum-told
-    (λ c. search (by_row_lem, rules))  -- returns
-    (λ c. search (by_row_lem, rules)))  -- returns-2
+    (λ c κs. search (by_row_lem, rules))  -- module_at-requires
+    (λ c. search (by_row_lem, rules))  -- enum_known-m
+    (λ c κs. search (by_row_lem, rules))  -- own_parameter-requires
+    (λ c. search (by_row_lem, rules))  -- enum_told-1
+    (λ c. search (by_row_lem, rules))  -- returns-in-At
+    (λ c. search (by_row_lem, rules)))  -- returns-in-Nothing

@@ -8,7 +8,7 @@ pub own_parameter_spec : {M : Type 1} → statement M
 own_parameter_spec =
     tie.close
     (tie.spec
-    (λ c κs. search (by_row_lem, rules))  -- row-count-requires
-    (λ c. search (by_row_lem, rules))  -- returns
-    (λ c κs. search (by_row_lem, rules))  -- row-of-requires
-    (λ c. search (by_row_lem, rules)))  -- returns-2
+    (λ c κs. search (by_row_lem, rules))  -- row_count-requires
+    (λ c. search (by_row_lem, rules))  -- returns-then-row_count-number
+    (λ c κs. search (by_row_lem, rules))  -- row_of-row-requires
+    (λ c. search (by_row_lem, rules)))  -- returns

@@ -8,11 +8,11 @@ pub crosspoint_spec : {M : Type 1} → statement M
 crosspoint_spec =
     tie.close
     (tie.spec
-    (λ c. search (point_rules, rules))  -- enum-known-found
-    (λ c κs. search (point_rules, rules))  -- is-word-requires
-    (λ c. search (point_rules, rules))  -- returns
-    (λ c. search (point_rules, rules))  -- returns-2
-    (λ c. search (point_rules, rules))  -- returns-3
-    (λ c. search (point_rules, rules))  -- enum-told
-    (λ c. search (point_rules, rules))  -- returns-4
-    (λ c. search (point_rules, rules)))  -- returns-5
+    (λ c. search (point_rules, rules))  -- enum_known-found
+    (λ c κs. search (point_rules, rules))  -- is_word-requires
+    (λ c. search (point_rules, rules))  -- returns-then-not-is_word
+    (λ c. search (point_rules, rules))  -- returns-then-output-lt1
+    (λ c. search (point_rules, rules))  -- returns-then-outputs-output
+    (λ c. search (point_rules, rules))  -- enum_told-1
+    (λ c. search (point_rules, rules))  -- returns-else-outputs-output
+    (λ c. search (point_rules, rules)))  -- returns-in-Nothing

@@ -8,11 +8,11 @@ pub is_word_spec : {M : Type 1} → statement M
 is_word_spec =
     tie.close
     (tie.spec
-    (λ c. search (word-rules, rules))  -- enum-told
-    (λ c. search (word-rules, rules))  -- enum-told-2
-    (λ c. search (word-rules, rules))  -- enum-told-3
-    (λ c. search (word-rules, rules))  -- enum-told-4
-    (λ c. search (word-rules, rules))  -- returns
-    (λ c. search (word-rules, rules))  -- returns-2
-    (λ c. search (word-rules, rules))  -- returns-3
-    (λ c. search (word-rules, rules)))  -- returns-4
+    (λ c. search (word-rules, rules))  -- enum_told-1
+    (λ c. search (word-rules, rules))  -- enum_told-in-Switch
+    (λ c. search (word-rules, rules))  -- enum_told-in-Number
+    (λ c. search (word-rules, rules))  -- enum_told-in-Word
+    (λ c. search (word-rules, rules))  -- returns-in-Level
+    (λ c. search (word-rules, rules))  -- returns-in-Switch
+    (λ c. search (word-rules, rules))  -- returns-in-Number
+    (λ c. search (word-rules, rules)))  -- returns-in-Word

@@ -8,8 +8,8 @@ pub listed_part_spec : {M : Type 1} → statement M
 listed_part_spec =
     tie.close
     (tie.spec
-    (λ c. search (listed_parts, rules))  -- enum-told
-    (λ c κs. search (listed_parts, rules))  -- listed-whole-requires
-    (λ c. search (listed_parts, rules))  -- enum-told-2
-    (λ c. search (listed_parts, rules))  -- returns
-    (λ c. search (listed_parts, rules)))  -- returns-2
+    (λ c. search (listed_parts, rules))  -- enum_told-1
+    (λ c κs. search (listed_parts, rules))  -- listed_whole-requires
+    (λ c. search (listed_parts, rules))  -- enum_told-in-Output
+    (λ c. search (listed_parts, rules))  -- returns-in-Whole
+    (λ c. search (listed_parts, rules)))  -- returns-in-Output

@@ -18,12 +18,12 @@ listed_whole_spec =
     (tie.spec
     invariant-loop-j
     decreases-loop-j
-    (λ c κs. search (listed_seeking, rules))  -- row-count-requires
-    (λ c. search (listed_seeking, rules))  -- loop-holds
-    (λ c κs. search (listed_seeking, rules))  -- listed-row-requires
-    (λ c κs. search (listed_seeking, rules))  -- same-indices-requires
-    (λ c. search (listed_seeking, rules))  -- returns
-    (λ c. search (listed_seeking, rules))  -- add-j
-    (λ c. search (listed_seeking, rules))  -- loop-less
-    (λ c. search (listed_seeking, rules))  -- loop-again
-    (λ c. search (listed_seeking, rules)))  -- returns-2
+    (λ c κs. search (listed_seeking, rules))  -- row_count-count-requires
+    (λ c. search (listed_seeking, rules))  -- loop-j-init
+    (λ c κs. search (listed_seeking, rules))  -- listed_row-row-requires
+    (λ c κs. search (listed_seeking, rules))  -- same_indices-requires
+    (λ c. search (listed_seeking, rules))  -- returns-then-same_indices
+    (λ c. search (listed_seeking, rules))  -- overflow_add-j
+    (λ c. search (listed_seeking, rules))  -- loop-j-smaller
+    (λ c. search (listed_seeking, rules))  -- loop-j-preserved
+    (λ c. search (listed_seeking, rules)))  -- returns

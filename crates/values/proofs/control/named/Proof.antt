@@ -9,14 +9,14 @@ pub named_spec : {M : Type 1} → statement M
 named_spec =
     tie.close
     (tie.spec
-    (λ c κs. search (naming, kind-flag, rules))  -- sought-by-requires
-    (λ c. search (naming, kind-flag, rules))  -- enum-known-indices
-    (λ c κs. search (naming, kind-flag, rules))  -- is-fixed-requires
-    (λ c κs. search (naming, kind-flag, rules))  -- listed-part-requires
-    (λ c. search (naming, kind-flag, rules))  -- returns
-    (λ c. search (naming, kind-flag, rules))  -- cast-part-found
-    (λ c κs. search (naming, kind-flag, rules))  -- mixer-parameter-requires
-    (λ c κs. search (naming, kind-flag, rules))  -- part-found-requires
-    (λ c. search (naming, kind-flag, rules))  -- enum-told
-    (λ c. search (naming, kind-flag, rules))  -- returns-2
-    (λ c. search (naming, kind-flag, rules)))  -- returns-3
+    (λ c κs. search (naming, kind-flag, rules))  -- sought_by-requires
+    (λ c. search (naming, kind-flag, rules))  -- enum_known-indices
+    (λ c κs. search (naming, kind-flag, rules))  -- is_fixed-requires
+    (λ c κs. search (naming, kind-flag, rules))  -- listed_part-requires
+    (λ c. search (naming, kind-flag, rules))  -- returns-then-is_fixed
+    (λ c. search (naming, kind-flag, rules))  -- overflow_cast-layout
+    (λ c κs. search (naming, kind-flag, rules))  -- mixer_parameter-requires
+    (λ c κs. search (naming, kind-flag, rules))  -- part_found-requires
+    (λ c. search (naming, kind-flag, rules))  -- enum_told-1
+    (λ c. search (naming, kind-flag, rules))  -- returns-else-is_fixed
+    (λ c. search (naming, kind-flag, rules)))  -- returns-in-Nothing

@@ -8,9 +8,9 @@ pub part_found_spec : {M : Type 1} → statement M
 part_found_spec =
     tie.close
     (tie.spec
-    (λ c. search (part-rules, rules))  -- enum-told
+    (λ c. search (part-rules, rules))  -- enum_told-1
     (λ c κs. search (part-rules, rules))  -- whole-requires
-    (λ c. search (part-rules, rules))  -- enum-known-part
+    (λ c. search (part-rules, rules))  -- enum_known-part
     (λ c κs. search (part-rules, rules))  -- crosspoint-requires
-    (λ c. search (part-rules, rules))  -- returns
-    (λ c. search (part-rules, rules)))  -- returns-2
+    (λ c. search (part-rules, rules))  -- returns-in-Whole
+    (λ c. search (part-rules, rules)))  -- returns-in-Output

@@ -8,17 +8,17 @@ pub sought_by_spec : {M : Type 1} → statement M
 sought_by_spec =
     tie.close
     (tie.spec
-    (λ c. search (sought_rules, rules))  -- enum-known-groups
-    (λ c. search (sought_rules, rules))  -- enum-known-g
-    (λ c. search (sought_rules, rules))  -- enum-told
-    (λ c. search (sought_rules, rules))  -- enum-known-groups-2
-    (λ c. search (sought_rules, rules))  -- enum-known-g-2
-    (λ c. search (sought_rules, rules))  -- enum-known-h
-    (λ c. search (sought_rules, rules))  -- enum-known-h-2
-    (λ c κs. search (sought_rules, rules))  -- sought-pair-requires
-    (λ c. search (sought_rules, rules))  -- enum-told-2
-    (λ c. search (sought_rules, rules))  -- returns
-    (λ c. search (sought_rules, rules))  -- returns-2
-    (λ c. search (sought_rules, rules))  -- returns-3
-    (λ c. search (sought_rules, rules))  -- returns-4
-    (λ c. search (sought_rules, rules)))  -- returns-5
+    (λ c. search (sought_rules, rules))  -- enum_known-groups
+    (λ c. search (sought_rules, rules))  -- enum_known-g
+    (λ c. search (sought_rules, rules))  -- enum_told-1
+    (λ c. search (sought_rules, rules))  -- enum_known-groups-in-TwoGroups-1
+    (λ c. search (sought_rules, rules))  -- enum_known-g-in-TwoGroups
+    (λ c. search (sought_rules, rules))  -- enum_known-h
+    (λ c. search (sought_rules, rules))  -- enum_known-h-in-Single-g
+    (λ c κs. search (sought_rules, rules))  -- sought_pair-requires
+    (λ c. search (sought_rules, rules))  -- enum_told-in-Pair-g
+    (λ c. search (sought_rules, rules))  -- returns-in-Single
+    (λ c. search (sought_rules, rules))  -- returns-in-Pair
+    (λ c. search (sought_rules, rules))  -- returns-in-Single-h
+    (λ c. search (sought_rules, rules))  -- returns-in-Pair-h
+    (λ c. search (sought_rules, rules)))  -- returns-in-Pair-g

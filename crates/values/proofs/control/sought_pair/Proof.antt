@@ -8,5 +8,5 @@ pub sought_pair_spec : {M : Type 1} → statement M
 sought_pair_spec =
     tie.close
     (tie.spec
-    (λ c. search (pair_rules, rules))  -- returns
-    (λ c. search (pair_rules, rules)))  -- returns-2
+    (λ c. search (pair_rules, rules))  -- returns-then-first-eq4
+    (λ c. search (pair_rules, rules)))  -- returns

@@ -8,7 +8,7 @@ pub whole_spec : {M : Type 1} → statement M
 whole_spec =
     tie.close
     (tie.spec
-    (λ c. search (whole-rules, rules))  -- enum-known-found
-    (λ c. search (whole-rules, rules))  -- enum-told
-    (λ c. search (whole-rules, rules))  -- returns
-    (λ c. search (whole-rules, rules)))  -- returns-2
+    (λ c. search (whole-rules, rules))  -- enum_known-found
+    (λ c. search (whole-rules, rules))  -- enum_told-1
+    (λ c. search (whole-rules, rules))  -- returns-in-At
+    (λ c. search (whole-rules, rules)))  -- returns-in-Nothing

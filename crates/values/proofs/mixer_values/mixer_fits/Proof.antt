@@ -18,12 +18,12 @@ mixer_fits_spec =
     (tie.spec
     invariant-loop-j
     decreases-loop-j
-    (λ c. search (mixing, rules))  -- loop-holds
-    (λ c. search (mixing, rules))  -- mul-mixer-permits
-    (λ c. search (mixing, rules))  -- shared-slice-copy-out-mixer-permits
-    (λ c κs. search (mixing, rules))  -- mixer-permits-requires
-    (λ c. search (mixing, rules))  -- returns
-    (λ c. search (mixing, rules))  -- add-j
-    (λ c. search (mixing, rules))  -- loop-less
-    (λ c. search (mixing, rules))  -- loop-again
-    (λ c. search (mixing, rules)))  -- returns-2
+    (λ c. search (mixing, rules))  -- loop-j-init
+    (λ c. search (mixing, rules))  -- offset_bounds-values-j
+    (λ c. search (mixing, rules))  -- bounds-values-j
+    (λ c κs. search (mixing, rules))  -- mixer_permits-requires
+    (λ c. search (mixing, rules))  -- returns-then-not-mixer_permits
+    (λ c. search (mixing, rules))  -- overflow_add-j
+    (λ c. search (mixing, rules))  -- loop-j-smaller
+    (λ c. search (mixing, rules))  -- loop-j-preserved
+    (λ c. search (mixing, rules)))  -- returns

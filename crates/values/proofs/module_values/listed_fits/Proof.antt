@@ -19,14 +19,14 @@ listed_fits_spec =
     (tie.spec
     invariant-loop-j
     decreases-loop-j
-    (λ c κs. search (running, testing, rules))  -- first-row-requires
-    (λ c. search (testing, rules))  -- loop-holds
-    (λ c. search (running, testing, rules))  -- add-row-permits
-    (λ c. search (testing, rules))  -- mul-row-permits
-    (λ c. search (testing, rules))  -- shared-slice-copy-out-row-permits
-    (λ c κs. search (running, testing, rules))  -- row-permits-requires
-    (λ c. search (testing, rules))  -- returns
-    (λ c. search (testing, rules))  -- add-j
-    (λ c. search (testing, rules))  -- loop-less
-    (λ c. search (testing, rules))  -- loop-again
-    (λ c. search (testing, rules)))  -- returns-2
+    (λ c κs. search (running, testing, rules))  -- first_row-first-requires
+    (λ c. search (testing, rules))  -- loop-j-init
+    (λ c. search (running, testing, rules))  -- overflow_add-first
+    (λ c. search (testing, rules))  -- offset_bounds-values-j
+    (λ c. search (testing, rules))  -- bounds-values-j
+    (λ c κs. search (running, testing, rules))  -- row_permits-requires
+    (λ c. search (testing, rules))  -- returns-then-not-row_permits
+    (λ c. search (testing, rules))  -- overflow_add-j
+    (λ c. search (testing, rules))  -- loop-j-smaller
+    (λ c. search (testing, rules))  -- loop-j-preserved
+    (λ c. search (testing, rules)))  -- returns

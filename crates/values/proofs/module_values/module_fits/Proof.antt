@@ -8,10 +8,10 @@ pub module_fits_spec : {M : Type 1} → statement M
 module_fits_spec =
     tie.close
     (tie.spec
-    (λ c κs. search (mixers, rules))  -- is-fixed-requires
-    (λ c κs. search (mixers, rules))  -- listed-fits-requires
-    (λ c. search (mixers, rules))  -- returns
-    (λ c. search (mixers, rules))  -- cast-mixer-fits
-    (λ c. search (mixers, rules))  -- cast-mixer-fits-2
-    (λ c κs. search (mixers, rules))  -- mixer-fits-requires
-    (λ c. search (mixers, rules)))  -- returns-2
+    (λ c κs. search (mixers, rules))  -- is_fixed-requires
+    (λ c κs. search (mixers, rules))  -- listed_fits-requires
+    (λ c. search (mixers, rules))  -- returns-then-is_fixed
+    (λ c. search (mixers, rules))  -- overflow_cast-layout
+    (λ c. search (mixers, rules))  -- overflow_cast-layout-2
+    (λ c κs. search (mixers, rules))  -- mixer_fits-requires
+    (λ c. search (mixers, rules)))  -- returns

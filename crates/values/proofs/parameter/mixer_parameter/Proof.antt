@@ -8,12 +8,12 @@ pub mixer_parameter_spec : {M : Type 1} → statement M
 mixer_parameter_spec =
     tie.close
     (tie.spec
-    (λ c. search (mixed, rules))  -- cast-inputs
-    (λ c. search (mixed, rules))  -- cast-outputs
-    (λ c κs. search (mixed, rules))  -- mixer-number-requires
-    (λ c. search (mixed, rules))  -- mul-if1
-    (λ c. search (mixed, rules))  -- mul-if1-2
-    (λ c. search (mixed, rules))  -- add-if1
-    (λ c κs. search (mixed, rules))  -- mixer-row-requires
-    (λ c. search (mixed, rules))  -- returns
-    (λ c. search (mixed, rules)))  -- returns-2
+    (λ c. search (mixed, rules))  -- overflow_cast-inputs
+    (λ c. search (mixed, rules))  -- overflow_cast-outputs
+    (λ c κs. search (mixed, rules))  -- mixer_number-number-requires
+    (λ c. search (mixed, rules))  -- overflow_mul-inputs
+    (λ c. search (mixed, rules))  -- overflow_mul-outputs
+    (λ c. search (mixed, rules))  -- overflow_add-inputs
+    (λ c κs. search (mixed, rules))  -- mixer_row-row-requires
+    (λ c. search (mixed, rules))  -- returns-then-number-inputs
+    (λ c. search (mixed, rules)))  -- returns

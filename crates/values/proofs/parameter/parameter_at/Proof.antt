@@ -19,18 +19,18 @@ parameter_at_spec =
     (tie.spec
     invariant-loop-place
     decreases-loop-place
-    (λ c. search (passing, walking, rules))  -- loop-holds
-    (λ c κs. search (passing, walking, rules))  -- layout-at-requires
-    (λ c κs. search (passing, walking, rules))  -- row-count-requires
-    (λ c. search (passing, walking, rules))  -- sub-if1
-    (λ c. search (passing, walking, rules))  -- sub-j
-    (λ c κs. search (passing, walking, rules))  -- row-of-requires
-    (λ c. search (passing, walking, rules))  -- returns
-    (λ c. search (passing, walking, rules))  -- add-number
-    (λ c. search (passing, walking, rules))  -- add-place
-    (λ c κs. search (passing, walking, rules))  -- body-length-requires
-    (λ c. search (passing, walking, rules))  -- add-place-2
-    (λ c. search (passing, walking, rules))  -- add-first
-    (λ c. search (passing, walking, rules))  -- loop-less
-    (λ c. search (passing, walking, rules))  -- loop-again
-    (λ c. search (passing, walking, rules)))  -- returns-2
+    (λ c. search (passing, walking, rules))  -- loop-place-init
+    (λ c κs. search (passing, walking, rules))  -- layout_at-layout-requires
+    (λ c κs. search (passing, walking, rules))  -- row_count-count-requires
+    (λ c. search (passing, walking, rules))  -- overflow_sub-k
+    (λ c. search (passing, walking, rules))  -- overflow_sub-within
+    (λ c κs. search (passing, walking, rules))  -- row_of-row-requires
+    (λ c. search (passing, walking, rules))  -- returns-then-k-first
+    (λ c. search (passing, walking, rules))  -- overflow_add-number
+    (λ c. search (passing, walking, rules))  -- overflow_add-place
+    (λ c κs. search (passing, walking, rules))  -- body_length-requires
+    (λ c. search (passing, walking, rules))  -- overflow_add-place-in-loop-place
+    (λ c. search (passing, walking, rules))  -- overflow_add-first
+    (λ c. search (passing, walking, rules))  -- loop-place-smaller
+    (λ c. search (passing, walking, rules))  -- loop-place-preserved
+    (λ c. search (passing, walking, rules)))  -- returns

@@ -19,14 +19,14 @@ parameter_count_spec =
     (tie.spec
     invariant-loop-at
     decreases-loop-at
-    (λ c. search (counting, walking, rules))  -- loop-holds
-    (λ c κs. search (counting, walking, rules))  -- layout-at-requires
-    (λ c. search (counting, walking, rules))  -- add-records
-    (λ c. search (counting, walking, rules))  -- add-at
-    (λ c κs. search (counting, walking, rules))  -- body-length-requires
-    (λ c. search (counting, walking, rules))  -- add-at-2
-    (λ c κs. search (counting, walking, rules))  -- row-count-requires
-    (λ c. search (counting, walking, rules))  -- add-passed
-    (λ c. search (counting, walking, rules))  -- loop-less
-    (λ c. search (counting, walking, rules))  -- loop-again
+    (λ c. search (counting, walking, rules))  -- loop-at-init
+    (λ c κs. search (counting, walking, rules))  -- layout_at-layout-requires
+    (λ c. search (counting, walking, rules))  -- overflow_add-records
+    (λ c. search (counting, walking, rules))  -- overflow_add-at
+    (λ c κs. search (counting, walking, rules))  -- body_length-requires
+    (λ c. search (counting, walking, rules))  -- overflow_add-at-in-loop-at
+    (λ c κs. search (counting, walking, rules))  -- row_count-count-requires
+    (λ c. search (counting, walking, rules))  -- overflow_add-passed
+    (λ c. search (counting, walking, rules))  -- loop-at-smaller
+    (λ c. search (counting, walking, rules))  -- loop-at-preserved
     (λ c. search (counting, walking, rules)))  -- returns

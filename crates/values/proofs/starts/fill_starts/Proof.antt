@@ -17,13 +17,13 @@ fill_starts_spec =
     (tie.spec
     invariant-loop-k
     decreases-loop-k
-    (λ c κs. search (filling, rules))  -- parameter-count-requires
-    (λ c. search (filling, rules))  -- loop-holds
-    (λ c κs. search (filling, rules))  -- start-at-requires
-    (λ c. search (filling, rules))  -- mul-t8
-    (λ c. search (filling, rules))  -- slice-set-from-values
-    (λ c. search (filling, rules))  -- add-k
-    (λ c. search (filling, rules))  -- loop-less
-    (λ c. search (filling, rules))  -- loop-again
-    (λ c. search (filling, rules))  -- same-length
+    (λ c κs. search (filling, rules))  -- parameter_count-count-requires
+    (λ c. search (filling, rules))  -- loop-k-init
+    (λ c κs. search (filling, rules))  -- start_at-requires
+    (λ c. search (filling, rules))  -- offset_bounds-values-k
+    (λ c. search (filling, rules))  -- bounds-values-k
+    (λ c. search (filling, rules))  -- overflow_add-k
+    (λ c. search (filling, rules))  -- loop-k-smaller
+    (λ c. search (filling, rules))  -- loop-k-preserved
+    (λ c. search (filling, rules))  -- shape_of-values
     (λ c. search (filling, rules)))  -- returns

@@ -8,9 +8,9 @@ pub start_at_spec : {M : Type 1} → statement M
 start_at_spec =
     tie.close
     (tie.spec
-    (λ c κs. search (one_start, rules))  -- parameter-at-requires
-    (λ c. search (one_start, rules))  -- enum-known-p
-    (λ c κs. search (one_start, rules))  -- start-of-requires
-    (λ c. search (one_start, rules))  -- enum-told
-    (λ c. search (one_start, rules))  -- returns
-    (λ c. search (one_start, rules)))  -- returns-2
+    (λ c κs. search (one_start, rules))  -- parameter_at-requires
+    (λ c. search (one_start, rules))  -- enum_known-p
+    (λ c κs. search (one_start, rules))  -- start_of-requires
+    (λ c. search (one_start, rules))  -- enum_told-1
+    (λ c. search (one_start, rules))  -- returns-in-At
+    (λ c. search (one_start, rules)))  -- returns-in-Nothing

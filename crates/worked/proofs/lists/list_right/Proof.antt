@@ -8,7 +8,7 @@ pub list_right_spec : {M : Type 1} → statement M
 list_right_spec =
     tie.close
     (tie.spec
-    (λ c κs. search rules)  -- restore-write-requires
-    (λ c κs. search rules)  -- told-right-requires
-    (λ c. search rules)  -- same-length
+    (λ c κs. search rules)  -- restore_write-restored-requires
+    (λ c κs. search rules)  -- told_right-requires
+    (λ c. search rules)  -- shape_of-buffer
     (λ c. search (call-compared, rules)))  -- returns

@@ -8,10 +8,10 @@ pub told_right_spec : {M : Type 1} → statement M
 told_right_spec =
     tie.close
     (tie.spec
-    (λ c. search (telling, rules))  -- returns
-    (λ c. search (telling, rules))  -- returns-2
-    (λ c. search (telling, rules))  -- returns-3
-    (λ c. search (telling, rules))  -- returns-4
-    (λ c. search (telling, rules))  -- slice-aggregate-same-bytes
-    (λ c κs. search (telling, rules))  -- same-bytes-requires
-    (λ c. search (telling, rules)))  -- returns-5
+    (λ c. search (telling, rules))  -- returns-then-restored-number
+    (λ c. search (telling, rules))  -- returns-then-restored-lines
+    (λ c. search (telling, rules))  -- returns-then-bytes-list
+    (λ c. search (telling, rules))  -- returns-then-buffer-bytes
+    (λ c. search (telling, rules))  -- slice_bounds-same_bytes-end
+    (λ c κs. search (telling, rules))  -- same_bytes-requires
+    (λ c. search (telling, rules)))  -- returns

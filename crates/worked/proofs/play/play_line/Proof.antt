@@ -8,15 +8,15 @@ pub play_line_spec : {M : Type 1} → statement M
 play_line_spec =
     tie.close
     (tie.spec
-    (λ c. search (turning, rules))  -- slice-aggregate-take
-    (λ c κs. search (turning, rules))  -- take-requires
-    (λ c. search (turning, rules))  -- sub-through
-    (λ c. search (turning, rules))  -- part-through-start
-    (λ c. search (turning, rules))  -- part-through-end
-    (λ c κs. search (turning, rules))  -- through-requires
-    (λ c. search (turning, rules))  -- array-share-prefix-reply
-    (λ c. search (turning, rules))  -- slice-aggregate-same-bytes
-    (λ c κs. search (turning, rules))  -- same-bytes-requires
-    (λ c. search (turning, rules))  -- add-t22
-    (λ c. search (turning, rules))  -- same-length
+    (λ c. search (turning, rules))  -- slice_bounds-take-end
+    (λ c κs. search (turning, rules))  -- take-called-requires
+    (λ c. search (turning, rules))  -- slice_bounds-through-count
+    (λ c. search (turning, rules))  -- slice_bounds-through-start
+    (λ c. search (turning, rules))  -- slice_bounds-through-end
+    (λ c κs. search (turning, rules))  -- through-must-requires
+    (λ c. search (turning, rules))  -- slice_bounds-reply-end
+    (λ c. search (turning, rules))  -- slice_bounds-same_bytes-end
+    (λ c κs. search (turning, rules))  -- same_bytes-right-requires
+    (λ c. search (turning, rules))  -- overflow_add-result
+    (λ c. search (turning, rules))  -- shape_of-values
     (λ c. search (turning, rules)))  -- returns

@@ -19,17 +19,17 @@ play_lines_spec =
     (tie.spec
     invariant-loop-at
     decreases-loop-at
-    (λ c κs. search (playing, rules))  -- fresh-requires
-    (λ c. search (playing, rules))  -- loop-holds
-    (λ c. search (playing, rules))  -- sub-play-line
-    (λ c. search (playing, rules))  -- part-play-line-start
-    (λ c. search (playing, rules))  -- part-play-line-end
-    (λ c κs. search (playing, rules))  -- play-line-requires
-    (λ c. search (playing, rules))  -- same-length
-    (λ c. search (playing, rules))  -- returns
-    (λ c. search (playing, rules))  -- add-at
-    (λ c. search (playing, rules))  -- add-right
-    (λ c. search (playing, rules))  -- loop-less
-    (λ c. search (playing, rules))  -- loop-again
-    (λ c. search (playing, rules))  -- same-length-2
-    (λ c. search (playing, rules)))  -- returns-2
+    (λ c κs. search (playing, rules))  -- fresh-port-requires
+    (λ c. search (playing, rules))  -- loop-at-init
+    (λ c. search (playing, rules))  -- slice_bounds-play_line-count
+    (λ c. search (playing, rules))  -- slice_bounds-play_line-start
+    (λ c. search (playing, rules))  -- slice_bounds-play_line-end
+    (λ c κs. search (playing, rules))  -- play_line-played-requires
+    (λ c. search (playing, rules))  -- shape_of-values-then-not-played
+    (λ c. search (playing, rules))  -- returns-then-not-played
+    (λ c. search (playing, rules))  -- overflow_add-at
+    (λ c. search (playing, rules))  -- overflow_add-right
+    (λ c. search (playing, rules))  -- loop-at-smaller
+    (λ c. search (playing, rules))  -- loop-at-preserved
+    (λ c. search (playing, rules))  -- shape_of-values
+    (λ c. search (playing, rules)))  -- returns

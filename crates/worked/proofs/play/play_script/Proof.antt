@@ -8,13 +8,13 @@ pub play_script_spec : {M : Type 1} → statement M
 play_script_spec =
     tie.close
     (tie.spec
-    (λ c κs. search (starting, rules))  -- is-sound-requires
-    (λ c. search (starting, rules))  -- returns
-    (λ c κs. search (starting, rules))  -- all-rows-requires
-    (λ c κs. search (starting, rules))  -- value-list-requires
-    (λ c. search (starting, rules))  -- slice-aggregate-fill-starts
-    (λ c κs. search (starting, rules))  -- fill-starts-requires
-    (λ c. search (starting, rules))  -- array-borrow-prefix-space
-    (λ c. search (starting, rules))  -- slice-aggregate-play-lines
-    (λ c κs. search (starting, rules))  -- play-lines-requires
-    (λ c. search (starting, rules)))  -- returns-2
+    (λ c κs. search (starting, rules))  -- is_sound-requires
+    (λ c. search (starting, rules))  -- returns-then-not-is_sound
+    (λ c κs. search (starting, rules))  -- all_rows-rows-requires
+    (λ c κs. search (starting, rules))  -- value_list-space-requires
+    (λ c. search (starting, rules))  -- slice_bounds-fill_starts-end
+    (λ c κs. search (starting, rules))  -- fill_starts-count-requires
+    (λ c. search (starting, rules))  -- slice_bounds-space-end
+    (λ c. search (starting, rules))  -- slice_bounds-play_lines-end
+    (λ c κs. search (starting, rules))  -- play_lines-requires
+    (λ c. search (starting, rules)))  -- returns

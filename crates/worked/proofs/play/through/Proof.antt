@@ -8,8 +8,8 @@ pub through_spec : {M : Type 1} → statement M
 through_spec =
     tie.close
     (tie.spec
-    (λ c κs. search (cutting, rules))  -- find-requires
-    (λ c. search (cutting, rules))  -- returns
-    (λ c. search (cutting, rules))  -- add-result
-    (λ c. search (cutting, rules))  -- slice-aggregate-result
-    (λ c. search (cutting, rules)))  -- returns-2
+    (λ c κs. search (cutting, rules))  -- find-end-requires
+    (λ c. search (cutting, rules))  -- returns-then-end-s
+    (λ c. search (cutting, rules))  -- overflow_add-result
+    (λ c. search (cutting, rules))  -- slice_bounds-result-end
+    (λ c. search (cutting, rules)))  -- returns

@@ -8,7 +8,7 @@ pub label_of_spec : {M : Type 1} → statement M
 label_of_spec =
     tie.close
     (tie.spec
-    (λ c κs. search (cutting, rules))  -- find-requires
-    (λ c. search (cutting, rules))  -- slice-aggregate-log-label
-    (λ c κs. search (cutting, rules))  -- log-label-requires
+    (λ c κs. search (cutting, rules))  -- find-end-requires
+    (λ c. search (cutting, rules))  -- slice_bounds-log_label-end
+    (λ c κs. search (cutting, rules))  -- log_label-requires
     (λ c. search (cutting, rules)))  -- returns

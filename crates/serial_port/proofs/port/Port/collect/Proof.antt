@@ -8,9 +8,9 @@ pub collect_spec : {M : Type 1} → statement M
 collect_spec =
     tie.close
     (tie.spec
-    (λ c. search (collecting, holding, rules))  -- returns
-    (λ c. search (collecting, holding, rules))  -- sub-if2
-    (λ c. search (collecting, holding, rules))  -- slice-aggregate-put-bytes
-    (λ c κs. search (collecting, holding, rules))  -- put-bytes-requires
-    (λ c. search (collecting, holding, rules))  -- returns-2
-    (λ c. search (collecting, holding, rules)))  -- returns-3
+    (λ c. search (collecting, holding, rules))  -- returns-then-self
+    (λ c. search (collecting, holding, rules))  -- overflow_sub-len
+    (λ c. search (collecting, holding, rules))  -- slice_bounds-put_bytes-end
+    (λ c κs. search (collecting, holding, rules))  -- put_bytes-end-requires
+    (λ c. search (collecting, holding, rules))  -- returns-then-more-len
+    (λ c. search (collecting, holding, rules)))  -- returns

@@ -9,12 +9,12 @@ pub finish_spec : {M : Type 1} → statement M
 finish_spec =
     tie.close
     (tie.spec
-    (λ c κs. search (finishing, holding, rules))  -- put-nak-requires
-    (λ c. search (finishing, holding, rules))  -- same-length
-    (λ c. search (finishing, holding, rules))  -- returns
-    (λ c. search (finishing, holding, rules))  -- array-share-prefix-held
-    (λ c. search (finishing, holding, rules))  -- slice-aggregate-answer-line
-    (λ c κs. search (finishing, holding, rules))  -- answer-line-requires
-    (λ c. search (finishing, holding, rules))  -- same-length-2
-    (λ c. search (finishing, holding, rules))  -- same-length-3
-    (λ c. search (finishing, holding, rules)))  -- returns-2
+    (λ c κs. search (finishing, holding, rules))  -- put_nak-requires
+    (λ c. search (finishing, holding, rules))  -- shape_of-reply-then-self
+    (λ c. search (finishing, holding, rules))  -- returns-then-self
+    (λ c. search (finishing, holding, rules))  -- slice_bounds-held-end
+    (λ c. search (finishing, holding, rules))  -- slice_bounds-answer_line-end
+    (λ c κs. search (finishing, holding, rules))  -- answer_line-requires
+    (λ c. search (finishing, holding, rules))  -- shape_of-values
+    (λ c. search (finishing, holding, rules))  -- shape_of-reply
+    (λ c. search (finishing, holding, rules)))  -- returns

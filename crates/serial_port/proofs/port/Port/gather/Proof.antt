@@ -8,9 +8,9 @@ pub gather_spec : {M : Type 1} → statement M
 gather_spec =
     tie.close
     (tie.spec
-    (λ c κs. search (gathering, rules))  -- find-requires
-    (λ c. search (gathering, rules))  -- slice-aggregate-collect
-    (λ c κs. search (gathering, rules))  -- collect-requires
-    (λ c. search (gathering, rules))  -- returns
-    (λ c. search (gathering, rules))  -- add-t12
-    (λ c. search (gathering, rules)))  -- returns-2
+    (λ c κs. search (gathering, rules))  -- find-end-requires
+    (λ c. search (gathering, rules))  -- slice_bounds-collect-end
+    (λ c κs. search (gathering, rules))  -- collect-port-requires
+    (λ c. search (gathering, rules))  -- returns-then-end-given
+    (λ c. search (gathering, rules))  -- overflow_add-result
+    (λ c. search (gathering, rules)))  -- returns

@@ -8,10 +8,10 @@ pub serve_spec : {M : Type 1} → statement M
 serve_spec =
     tie.close
     (tie.spec
-    (λ c κs. search (serving, rules))  -- gather-requires
-    (λ c. search (serving, rules))  -- returns
-    (λ c κs. search (serving, rules))  -- finish-requires
-    (λ c κs. search (serving, rules))  -- fresh-requires
-    (λ c. search (serving, rules))  -- same-length
-    (λ c. search (serving, rules))  -- same-length-2
-    (λ c. search (serving, rules)))  -- returns-2
+    (λ c κs. search (serving, rules))  -- gather-gathered-requires
+    (λ c. search (serving, rules))  -- returns-then-not-gathered
+    (λ c κs. search (serving, rules))  -- finish-answered-requires
+    (λ c κs. search (serving, rules))  -- fresh-next-requires
+    (λ c. search (serving, rules))  -- shape_of-values
+    (λ c. search (serving, rules))  -- shape_of-reply
+    (λ c. search (serving, rules)))  -- returns

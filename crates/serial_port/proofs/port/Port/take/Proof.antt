@@ -8,12 +8,12 @@ pub take_spec : {M : Type 1} → statement M
 take_spec =
     tie.close
     (tie.spec
-    (λ c κs. search (taking, rules))  -- all-rows-requires
-    (λ c κs. search (taking, rules))  -- call-number-requires
+    (λ c κs. search (taking, rules))  -- all_rows-rows-requires
+    (λ c κs. search (taking, rules))  -- call_number-number-requires
     (λ c κs. search (taking, rules))  -- refused-requires
-    (λ c. search (taking, rules))  -- same-length
-    (λ c. search (taking, rules))  -- returns
+    (λ c. search (taking, rules))  -- shape_of-values-then-number-ne0
+    (λ c. search (taking, rules))  -- returns-then-number-ne0
     (λ c κs. ((search (taking, rules), search (taking, rules), search (taking, rules)), (search (taking, rules), search (taking, rules))))  -- serve-requires
-    (λ c. search (taking, rules))  -- same-length-2
-    (λ c. search (taking, rules))  -- same-length-3
-    (λ c. search (taking, rules)))  -- returns-2
+    (λ c. search (taking, rules))  -- shape_of-values
+    (λ c. search (taking, rules))  -- shape_of-reply
+    (λ c. search (taking, rules)))  -- returns

@@ -8,10 +8,10 @@ pub take_tested_spec : {M : Type 1} → statement M
 take_tested_spec =
     tie.close
     (tie.spec
-    (λ c κs. search (taking_tested, rules))  -- claim-number-requires
+    (λ c κs. search (taking_tested, rules))  -- claim_number-claim-requires
     (λ c κs. search (taking_tested, rules))  -- refused-requires
-    (λ c. search (taking_tested, rules))  -- returns
+    (λ c. search (taking_tested, rules))  -- returns-then-claim-ne0
     (λ c κs. search (taking_tested, rules))  -- serve-requires
-    (λ c. search (taking_tested, rules))  -- same-length
-    (λ c. search (taking_tested, rules))  -- same-length-2
-    (λ c. search (taking_tested, rules)))  -- returns-2
+    (λ c. search (taking_tested, rules))  -- shape_of-values
+    (λ c. search (taking_tested, rules))  -- shape_of-reply
+    (λ c. search (taking_tested, rules)))  -- returns
