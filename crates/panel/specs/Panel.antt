@@ -33,9 +33,9 @@ change_number r (At p) x = row_number (row_in r p) x
 change_number r Nothing x = 9
 
 -- the first that applies in the call's order, 0 where none does: 1 the table is not sound, 2 the values are wrong, 3 the reply buffer has under 64 bytes, then 9
-unfoldable pub panel_number : Room → List ℤ → (replyRoom owner row : ℕ) → ℤ → ℕ
-panel_number r vs replyRoom owner row x =
-    first_refusal (table_number r.table ∷ values_number r vs ∷ reply_number reply_limit replyRoom ∷ change_number r (by_row r.table owner row) x ∷ [])
+unfoldable pub panel_number : Room → List ℤ → (reply_room owner row : ℕ) → ℤ → ℕ
+panel_number r vs reply_room owner row x =
+    first_refusal (table_number r.table ∷ values_number r vs ∷ reply_number reply_limit reply_room ∷ change_number r (by_row r.table owner row) x ∷ [])
 
 -- a module whose changes are told: its label begins with `#`
 unfoldable pub notified : List ℕ → Module → Bool

@@ -28,8 +28,8 @@ fn read_to_end(file: &mut impl Read, buffer: &mut [u8]) -> usize
     at
 }
 
-// The length of a file that was read into the buffer; all of the buffer where it is missing, can't be read or is longer. The contract only
-// limits it, as above.
+// The length of a file that was read into the buffer; all of the buffer where it is missing, can't be read or is longer. A name that is no UTF-8
+// text names none. The contract only limits the length, as above.
 pub(crate) fn read_file(files: &impl Files, path: &[u8], buffer: &mut [u8]) -> usize
     ensures { result ≤ length buffer.new }
 {

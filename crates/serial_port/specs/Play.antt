@@ -48,12 +48,12 @@ play_from server refusal call (suc left) v s (b ∷ bs) =
     (drop (step server s v (b ∷ bs)).consumed (b ∷ bs)))
 
 -- when a call of ControlSpace is refused; the reply buffer of each call has a length of its own
-unfoldable pub refusal : Room → (replyRooms : ℕ → ℕ) → (call : ℕ) → List ℤ → View → ℕ
-refusal r replyRooms call vs v = call_number r vs (replyRooms call) (claim v)
+unfoldable pub refusal : Room → (reply_rooms : ℕ → ℕ) → (call : ℕ) → List ℤ → View → ℕ
+refusal r reply_rooms call vs v = call_number r vs (reply_rooms call) (claim v)
 
 -- playing to ControlSpace starts from a fresh port; each call consumes a byte or more, so that there are at most as many calls as bytes
-unfoldable pub play : Room → (replyRooms : ℕ → ℕ) → List ℤ → List ℕ → Played (List ℤ)
-play r replyRooms vs bs = play_from (control_space r) (refusal r replyRooms) 0 (length bs) fresh vs bs
+unfoldable pub play : Room → (reply_rooms : ℕ → ℕ) → List ℤ → List ℕ → Played (List ℤ)
+play r reply_rooms vs bs = play_from (control_space r) (refusal r reply_rooms) 0 (length bs) fresh vs bs
 
 -- the same, byte by byte and without refusals: an 0D finishes the line, any other byte makes it longer
 unfoldable pub feed : {S : Type 0} → Server S → View → S → List ℕ → Played S

@@ -34,7 +34,7 @@ fn read_full(reader: &mut impl Read, buffer: &mut [u8]) -> usize
     at
 }
 
-// Reads a file into the buffer, and tells how many bytes came: none where there is no such file.
+// Reads a file into the buffer, and tells how many bytes came: none where there is no such file. A name that is no UTF-8 text names none.
 pub(crate) fn read_file(files: &impl Files, path: &[u8], buffer: &mut [u8]) -> usize
     ensures { (result ≤ length buffer.new) × (result ≡ length (take result buffer.new)) }
 {

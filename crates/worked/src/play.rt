@@ -4,7 +4,7 @@ ghost use Rattle.room.specs.Table.{sound};
 ghost use Rattle.values.specs.Room.{room_of};
 ghost use Rattle.values.specs.Values.{value_limit, values_sound};
 ghost use Rattle.worked.specs.Script.{Plays, outcome, tally, told};
-ghost use Rattle.worked.specs.Script.{through as Script·through};
+ghost use Rattle.worked.specs.Script.{through as script_through};
 
 use crate::compare::same_bytes;
 use catalogue::table::all_rows;
@@ -31,7 +31,7 @@ pub struct Played {
 
 // The bytes through the first 0D: all, where there is none.
 fn through(s: &[u8]) -> &[u8]
-    ensures { result.now ≡ Script·through s.now }
+    ensures { result.now ≡ script_through s.now }
 {
     let end = find(s, 0x0D);
     if end == s.len() {

@@ -24,7 +24,7 @@ use Rattle.capi.specs.Connections.{row_of}
 use Rattle.capi.specs.Connections.Places.{no_thirty_two, row_length}
 use Rattle.capi.specs.Connections.Storing.{StoresServed, stores_served}
 use Rattle.capi.specs.Port.{port_tells}
-use Rattle.capi.specs.Port.Bytes.{bytes_of as storedBytes}
+use Rattle.capi.specs.Port.Bytes.{bytes_of as stored_bytes}
 use Rattle.capi.specs.Port.Calling.{stored}
 use Rattle.capi.specs.Turn.{Left, PutBack, TurnCalled, asked_of, called, counted, put_back, served_numbers, told_numbers, turn_answer}
 
@@ -106,7 +106,7 @@ module _ (r : Room) (vs : List ℤ) (row : List ℕ) (last : ℕ) (given counts 
   left_served i x row' w b (stores_served size placed) =
       let p = d.connection.port in
       let v = (step (control_space r) vs (view (port_at (row_of row) i)) (bytes_of a i)).port in
-      let put : PutBack row i v row' = put_back (storedBytes p) size (stored p v b.seen b.few) placed in
+      let put : PutBack row i v row' = put_back (stored_bytes p) size (stored p v b.seen b.few) placed in
       rw (← w) put
 
   pub turn-served : (i : ℕ) (ns row' : List ℕ) → d.turned.served ≡ One i → ns ≡ fault_numbers d.turned.fault → StoresServed row i d.connection.port row'

@@ -18,13 +18,13 @@ use Rattle.connections.specs.Connections.Number.{open_flag}
 use Rattle.connections.specs.declared.connection.Connection.{Connection}
 use Rattle.connections.specs.declared.connection.Switched.{Switched}
 
-pub change_open : (want is-open : Bool) → want ≡ true → not is-open ≡ changes want is-open
+pub change_open : (want now : Bool) → want ≡ true → not now ≡ changes want now
 unfolding changes
-change_open want is-open h = rw h refl
+change_open want now h = rw h refl
 
-pub change_closed : (want is-open : Bool) → want ≡ false → is-open ≡ changes want is-open
+pub change_closed : (want now : Bool) → want ≡ false → now ≡ changes want now
 unfolding changes
-change_closed want is-open h = rw h refl
+change_closed want now h = rw h refl
 
 pub stays_so : (want b : Bool) (c : Connection) → b ≡ changes want c.is_open → not b ≡ true → SwitchesOne want c (record { connection = c; number = 10 })
 stays_so want b c e h = kept (sym e ∙ not-true b h) refl refl

@@ -23,9 +23,9 @@ unfoldable pub claims_number : (few : Bool) → ℕ
 claims_number few = cond few 0 4
 
 -- the first that applies in the turn's order
-unfoldable pub number_by : Room → (few : Bool) → (last : ℕ) → (counts : List ℕ) → (bytes : ℕ) → List ℤ → (replyRoom : ℕ) → ℕ
-number_by r few last counts bytes vs replyRoom =
-    first_refusal (fit_number counts bytes last ∷ table_number r.table ∷ values_number r vs ∷ reply_number reply_limit replyRoom ∷ claims_number few ∷ [])
+unfoldable pub number_by : Room → (few : Bool) → (last : ℕ) → (counts : List ℕ) → (bytes : ℕ) → List ℤ → (reply_room : ℕ) → ℕ
+number_by r few last counts bytes vs reply_room =
+    first_refusal (fit_number counts bytes last ∷ table_number r.table ∷ values_number r vs ∷ reply_number reply_limit reply_room ∷ claims_number few ∷ [])
 
 -- of a row of 32 that was looked over, it is the turn's
 pub number-noted : (r : Room) (a : Asked) → length a.row ≡ 32
@@ -55,10 +55,10 @@ pub claims_many : (few : Bool) → few ≡ false → 4 ≡ claims_number few
 unfolding claims_number
 claims_many few h = rw h refl
 
-pub tells-turn : (r : Room) (few : Bool) (last : ℕ) (counts : List ℕ) (bytes : ℕ) (vs : List ℤ) (replyRoom n : ℕ)
-    → n ≡ first_refusal (fit_number counts bytes last ∷ table_number r.table ∷ values_number r vs ∷ reply_number 64 replyRoom ∷ claims_number few ∷ [])
-    → n ≡ number_by r few last counts bytes vs replyRoom
+pub tells-turn : (r : Room) (few : Bool) (last : ℕ) (counts : List ℕ) (bytes : ℕ) (vs : List ℤ) (reply_room n : ℕ)
+    → n ≡ first_refusal (fit_number counts bytes last ∷ table_number r.table ∷ values_number r vs ∷ reply_number 64 reply_room ∷ claims_number few ∷ [])
+    → n ≡ number_by r few last counts bytes vs reply_room
 unfolding number_by reply_limit
-tells-turn r few last counts bytes vs replyRoom n e = e
+tells-turn r few last counts bytes vs reply_room n e = e
 
 pub ruleset numbering = (counts_wrong, last_wrong, fits_told, claims_few_lem, claims_many, table_held, tells-turn, refusing)

@@ -21,7 +21,7 @@ use Rattle.serial_port.specs.Refusal.Number.{reply_passed, reply_refused}
 use Rattle.panel.specs.Panel.{change_number, panel_number, row_number}
 use Rattle.panel.specs.Panel.Laws.{Accepted, accepted}
 
--- what is not allowed: a module or a row that is not there, a read_only row, a value that the room does not permit
+-- what is not allowed: a module or a row that is not there, a read-only row, a value that the room does not permit
 pub data Forbidden (r : Room) (owner row : ℕ) (x : ℤ) : Type 0 where
   missing : Missing r.table owner row → Forbidden r owner row x
   read_only : (p : Parameter) → by_row r.table owner row ≡ At p → p.row.settable ≡ false → Forbidden r owner row x
@@ -46,32 +46,32 @@ module _ (r : Room) (owner row : ℕ) (x : ℤ) where
       second a b h = rw (h, and-false a) refl
 
 -- what each number tells
-pub data Verdict (r : Room) (vs : List ℤ) (replyRoom owner row : ℕ) (x : ℤ) : ℕ → Type 0 where
-  unsound : sound r.table ≡ false → Verdict r vs replyRoom owner row x 1
-  wrong : sound r.table ≡ true → values_sound r vs ≡ false → Verdict r vs replyRoom owner row x 2
-  short : sound r.table ≡ true → values_sound r vs ≡ true → replyRoom < reply_limit → Verdict r vs replyRoom owner row x 3
-  forbidden : sound r.table ≡ true → values_sound r vs ≡ true → reply_limit ≤ replyRoom → Forbidden r owner row x → Verdict r vs replyRoom owner row x 9
-  made : Accepted r vs replyRoom owner row x → Verdict r vs replyRoom owner row x 0
+pub data Verdict (r : Room) (vs : List ℤ) (reply_room owner row : ℕ) (x : ℤ) : ℕ → Type 0 where
+  unsound : sound r.table ≡ false → Verdict r vs reply_room owner row x 1
+  wrong : sound r.table ≡ true → values_sound r vs ≡ false → Verdict r vs reply_room owner row x 2
+  short : sound r.table ≡ true → values_sound r vs ≡ true → reply_room < reply_limit → Verdict r vs reply_room owner row x 3
+  forbidden : sound r.table ≡ true → values_sound r vs ≡ true → reply_limit ≤ reply_room → Forbidden r owner row x → Verdict r vs reply_room owner row x 9
+  made : Accepted r vs reply_room owner row x → Verdict r vs reply_room owner row x 0
 
-module _ (r : Room) (vs : List ℤ) (replyRoom owner row : ℕ) (x : ℤ) where
+module _ (r : Room) (vs : List ℤ) (reply_room owner row : ℕ) (x : ℤ) where
   -- a number with its reason is the call's
-  number_by_lem : {n : ℕ} → Verdict r vs replyRoom owner row x n → panel_number r vs replyRoom owner row x ≡ n
+  number_by_lem : {n : ℕ} → Verdict r vs reply_room owner row x n → panel_number r vs reply_room owner row x ≡ n
   unfolding panel_number
   number_by_lem (unsound s) = first_by (stops (table_refused r.table s))
   number_by_lem (wrong s v) = first_by (passes (table_passed r.table s) (stops (values_refused r vs v)))
-  number_by_lem (short s v l) = first_by (passes (table_passed r.table s) (passes (values_passed r vs v) (stops (reply_refused reply_limit replyRoom l))))
+  number_by_lem (short s v l) = first_by (passes (table_passed r.table s) (passes (values_passed r vs v) (stops (reply_refused reply_limit reply_room l))))
   number_by_lem (forbidden s v l f) =
       first_by
       (passes (table_passed r.table s)
-      (passes (values_passed r vs v) (passes (reply_passed reply_limit replyRoom l) (stops (forbidden_nine r owner row x f)))))
-  number_by_lem (made a) = accepted r vs replyRoom owner row x a
+      (passes (values_passed r vs v) (passes (reply_passed reply_limit reply_room l) (stops (forbidden_nine r owner row x f)))))
+  number_by_lem (made a) = accepted r vs reply_room owner row x a
 
   -- and there is one
   record Judged : Type 0 where
     number : ℕ
-    verdict : Verdict r vs replyRoom owner row x number
+    verdict : Verdict r vs reply_room owner row x number
 
-  judged_row : sound r.table ≡ true → values_sound r vs ≡ true → reply_limit ≤ replyRoom → (f : ParameterFound) → by_row r.table owner row ≡ f → Judged
+  judged_row : sound r.table ≡ true → values_sound r vs ≡ true → reply_limit ≤ reply_room → (f : ParameterFound) → by_row r.table owner row ≡ f → Judged
   judged_row s v l (At p) e = go p.row.settable refl (permitted (row_in r p) x) refl
     where
       go : (a : Bool) → p.row.settable ≡ a → (b : Bool) → permitted (row_in r p) x ≡ b → Judged
@@ -81,29 +81,29 @@ module _ (r : Room) (vs : List ℤ) (replyRoom owner row : ℕ) (x : ℤ) where
   judged_row s v l Nothing e = record { number = 9; verdict = forbidden s v l (missing ((exactly_missing r.table owner row).0 e)) }
 
   judged : Judged
-  judged = go (sound r.table) refl (values_sound r vs) refl (leb reply_limit replyRoom) refl
+  judged = go (sound r.table) refl (values_sound r vs) refl (leb reply_limit reply_room) refl
     where
-      go : (a : Bool) → sound r.table ≡ a → (b : Bool) → values_sound r vs ≡ b → (c : Bool) → leb reply_limit replyRoom ≡ c → Judged
+      go : (a : Bool) → sound r.table ≡ a → (b : Bool) → values_sound r vs ≡ b → (c : Bool) → leb reply_limit reply_room ≡ c → Judged
       go false s b v c l = record { number = 1; verdict = unsound s }
       go true s false v c l = record { number = 2; verdict = wrong s v }
-      go true s true v false l = record { number = 3; verdict = short s v (leb-false reply_limit replyRoom l) }
-      go true s true v true l = judged_row s v (leb-true reply_limit replyRoom l) (by_row r.table owner row) refl
+      go true s true v false l = record { number = 3; verdict = short s v (leb-false reply_limit reply_room l) }
+      go true s true v true l = judged_row s v (leb-true reply_limit reply_room l) (by_row r.table owner row) refl
 
   -- the number of every call, with its reason
-  pub verdict : Verdict r vs replyRoom owner row x (panel_number r vs replyRoom owner row x)
+  pub verdict : Verdict r vs reply_room owner row x (panel_number r vs reply_room owner row x)
   verdict = let j = judged in rw (number_by_lem j.verdict) j.verdict
 
   -- 9 exactly when 1, 2 and 3 do not apply, and the module, the row or the value is not allowed
-  pub exactly_nine : (panel_number r vs replyRoom owner row x ≡ 9)
-      ↔ ((sound r.table ≡ true) × (values_sound r vs ≡ true) × (reply_limit ≤ replyRoom) × Forbidden r owner row x)
+  pub exactly_nine : (panel_number r vs reply_room owner row x ≡ 9)
+      ↔ ((sound r.table ≡ true) × (values_sound r vs ≡ true) × (reply_limit ≤ reply_room) × Forbidden r owner row x)
   exactly_nine = (there, (λ h. number_by_lem (forbidden h.0 h.1 h.2 h.3)))
     where
-      told : {n : ℕ} → Verdict r vs replyRoom owner row x n → n ≡ 9 → (sound r.table ≡ true) × (values_sound r vs ≡ true) × (reply_limit ≤ replyRoom) × Forbidden r owner row x
+      told : {n : ℕ} → Verdict r vs reply_room owner row x n → n ≡ 9 → (sound r.table ≡ true) × (values_sound r vs ≡ true) × (reply_limit ≤ reply_room) × Forbidden r owner row x
       told (unsound s) e = absurd (omega arith)
       told (wrong s v) e = absurd (omega arith)
       told (short s v l) e = absurd (omega arith)
       told (forbidden s v l f) e = (s, v, l, f)
       told (made a) e = absurd (omega arith)
 
-      there : panel_number r vs replyRoom owner row x ≡ 9 → (sound r.table ≡ true) × (values_sound r vs ≡ true) × (reply_limit ≤ replyRoom) × Forbidden r owner row x
+      there : panel_number r vs reply_room owner row x ≡ 9 → (sound r.table ≡ true) × (values_sound r vs ≡ true) × (reply_limit ≤ reply_room) × Forbidden r owner row x
       there e = told verdict e

@@ -77,39 +77,39 @@ allows r p x s h = test_passed ((row_in r p).settable && permitted (row_in r p) 
     both a b e f = rw (e, f) refl
 
 -- no refusal applies: the row is there, may be set and permits the value
-pub record Accepted (r : Room) (vs : List ℤ) (replyRoom owner row : ℕ) (x : ℤ) : Type 0 where
+pub record Accepted (r : Room) (vs : List ℤ) (reply_room owner row : ℕ) (x : ℤ) : Type 0 where
   pub table : sound r.table ≡ true
   pub right : values_sound r vs ≡ true
-  pub room : reply_limit ≤ replyRoom
+  pub room : reply_limit ≤ reply_room
   pub parameter : Parameter
   pub found : by_row r.table owner row ≡ At parameter
   pub settable : parameter.row.settable ≡ true
   pub permits : permitted (row_in r parameter) x ≡ true
 
-module _ (r : Room) (vs : List ℤ) (replyRoom owner row : ℕ) (x : ℤ) where
-  pub accepts : panel_number r vs replyRoom owner row x ≡ 0 → Accepted r vs replyRoom owner row x
+module _ (r : Room) (vs : List ℤ) (reply_room owner row : ℕ) (x : ℤ) where
+  pub accepts : panel_number r vs reply_room owner row x ≡ 0 → Accepted r vs reply_room owner row x
   unfolding panel_number
   accepts e =
       let a = all_passed _ _ e in
       let b = all_passed _ _ a.1 in
       let c = all_passed _ _ b.1 in
       let d = all_passed _ _ c.1 in
-      go (by_row r.table owner row) refl (passed_table r.table a.0) (passed_values r vs b.0) (passed_reply reply_limit replyRoom c.0) d.0
+      go (by_row r.table owner row) refl (passed_table r.table a.0) (passed_values r vs b.0) (passed_reply reply_limit reply_room c.0) d.0
     where
-      go : (f : ParameterFound) → by_row r.table owner row ≡ f → sound r.table ≡ true → values_sound r vs ≡ true → reply_limit ≤ replyRoom → change_number r f x ≡ 0
-          → Accepted r vs replyRoom owner row x
+      go : (f : ParameterFound) → by_row r.table owner row ≡ f → sound r.table ≡ true → values_sound r vs ≡ true → reply_limit ≤ reply_room → change_number r f x ≡ 0
+          → Accepted r vs reply_room owner row x
       go (At p) q s v l n =
           let h = allowed r p x n in
           record { table = s; right = v; room = l; parameter = p; found = q; settable = h.0; permits = h.1 }
       go Nothing q s v l n = absurd (unfold change_number in omega arith)
 
-  pub accepted : Accepted r vs replyRoom owner row x → panel_number r vs replyRoom owner row x ≡ 0
+  pub accepted : Accepted r vs reply_room owner row x → panel_number r vs reply_room owner row x ≡ 0
   unfolding panel_number
   accepted a =
       first_by
       (passes (table_passed r.table a.table)
       (passes (values_passed r vs a.right)
-      (passes (reply_passed reply_limit replyRoom a.room)
+      (passes (reply_passed reply_limit reply_room a.room)
       (passes (ap (λ (f : ParameterFound). change_number r f x) a.found ∙ allows r a.parameter x a.settable a.permits) all))))
 
 module _ (r : Room) (vs : List ℤ) (buffer : List ℕ) (owner row : ℕ) (x : ℤ) (a : Accepted r vs (length buffer) owner row x) where

@@ -14,7 +14,7 @@ use Rattle.restore_list.specs.Measuring.Walk.{admitted_lists, wish_changes}
 use Rattle.restore_list.specs.declared.module_measuring.Measured.{Measured}
 use Rattle.restore_list.specs.declared.module_measuring.Measured.TheVariants.{Within, Beyond}
 use Rattle.restore.specs.Demand.{Restores, Sizes}
-use Rattle.restore.specs.Demand.Rules.{returns-listed, returns-refused, sizes-listed, sizes-refused}
+use Rattle.restore.specs.Demand.Rules.{returns_listed, returns_refused, sizes-listed, sizes-refused}
 use Rattle.restore.specs.Demand.Sized.{bytes-accepted, lines_accepted, size-listed, size_none, size-numbered}
 use Rattle.restore.specs.declared.Restored.{Restored}
 
@@ -45,13 +45,13 @@ module _ (t : List ℕ) (vs : List ℤ) (selection : List ℕ) (ws : List ℤ) (
         let q = beyond_told t (all_changes t vs selection ws) (sym k ∙ g.is) in
         rw i (sizes-refused (wish_of t vs selection ws) 7 (size-beyond (wish_of t vs selection ws) a (rw (wish_changes (wish_of t vs selection ws)) q)) (λ z. omega arith))
 
-    pub returns-size : (r : Restored) (bytes lines : ℕ) → f ≡ Within bytes lines → r ≡ record { bytes = bytes; lines = lines; number = 0 } → Sizes (wish_of t vs selection ws) r
-    returns-size r bytes lines k i =
+    pub returns_size : (r : Restored) (bytes lines : ℕ) → f ≡ Within bytes lines → r ≡ record { bytes = bytes; lines = lines; number = 0 } → Sizes (wish_of t vs selection ws) r
+    returns_size r bytes lines k i =
         let q : (all_reachable t (changes (wish_of t vs selection ws)) ≡ true) × (bytes ≡ length (listing t (changes (wish_of t vs selection ws)))) × (lines ≡ length (changes (wish_of t vs selection ws)))
         = rw (wish_changes (wish_of t vs selection ws)) (within-told t (all_changes t vs selection ws) bytes lines (sym k ∙ g.is)) in
         rw i (sizes-listed (wish_of t vs selection ws) bytes lines (size-within (wish_of t vs selection ws) a q.0) q.1 q.2)
 
-pub ruleset measuring_call = (matches, refuses-reach, returns-size)
+pub ruleset measuring_call = (matches, refuses-reach, returns_size)
 
 -- ---- the list written. What is told of bytes and lines says that the wish was accepted, so only a list without a line asks for the number
 
@@ -60,22 +60,22 @@ module _ (t : List ℕ) (vs : List ℤ) (selection : List ℕ) (ws : List ℤ) (
   refuses-size k n =
       let w = wish_of t vs selection ws in
       let m : size_number w ≡ 0 → ⊥ = λ z. omega (arith, size-numbered h) in
-      returns-refused w buffer s s.number (written_refused w (length buffer) m ∙ size-numbered h) (λ z. omega arith) refl (size_none h m).0 (size_none h m).1
+      returns_refused w buffer s s.number (written_refused w (length buffer) m ∙ size-numbered h) (λ z. omega arith) refl (size_none h m).0 (size_none h m).1
 
   pub refuses-room : (r : Restored) → length buffer < s.bytes → r ≡ record { bytes = 0; lines = 0; number = 8 } → Restores (wish_of t vs selection ws) buffer r buffer
   refuses-room r l k =
       let w = wish_of t vs selection ws in
       let z = bytes-accepted h (omega arith) in
-      rw k (returns-refused w buffer (record { bytes = 0; lines = 0; number = 8 }) 8 (written_short w (length buffer) z (omega (arith, (size-listed h z).0))) (λ z. omega arith) refl refl refl)
+      rw k (returns_refused w buffer (record { bytes = 0; lines = 0; number = 8 }) 8 (written_short w (length buffer) z (omega (arith, (size-listed h z).0))) (λ z. omega arith) refl refl refl)
 
   -- a list without a line is written already
-  pub returns-empty : (r : Restored) → s.number ≤ 0 → s.lines ≡ 0 → r ≡ record { bytes = 0; lines = 0; number = 0 } → Restores (wish_of t vs selection ws) buffer r buffer
-  returns-empty r i l k =
+  pub returns_empty : (r : Restored) → s.number ≤ 0 → s.lines ≡ 0 → r ≡ record { bytes = 0; lines = 0; number = 0 } → Restores (wish_of t vs selection ws) buffer r buffer
+  returns_empty r i l k =
       let w = wish_of t vs selection ws in
       let z : size_number w ≡ 0 = omega (arith, size-numbered h) in
       let n : changes w ≡ [] = no_change (changes w) (sym (size-listed h z).1 ∙ l) in
       let b : listing t (changes w) ≡ [] = rw n (listing_none t) in
-      rw k (returns-listed w buffer (record { bytes = 0; lines = 0; number = 0 }) buffer (written_fits w (length buffer) z (rw b (omega arith))) refl (rw b refl) (rw n refl)
+      rw k (returns_listed w buffer (record { bytes = 0; lines = 0; number = 0 }) buffer (written_fits w (length buffer) z (rw b (omega arith))) refl (rw b refl) (rw n refl)
       (rw b (bytes-by (wrote_nothing buffer 0))))
 
   module _ (l : s.lines ≡ 0 → ⊥) where
@@ -89,11 +89,11 @@ module _ (t : List ℕ) (vs : List ℤ) (selection : List ℕ) (ws : List ℤ) (
       pub list-room : length (listing t (all_changes t vs selection ws)) ≤ length buffer
       list-room = rw (← wish_changes (wish_of t vs selection ws)) fits
 
-      pub returns-list : (n : ℕ) (after : List ℕ) → Wrote buffer 0 (listing t (all_changes t vs selection ws)) n after → Restores (wish_of t vs selection ws) buffer s after
-      returns-list n after o =
+      pub returns_list : (n : ℕ) (after : List ℕ) → Wrote buffer 0 (listing t (all_changes t vs selection ws)) n after → Restores (wish_of t vs selection ws) buffer s after
+      returns_list n after o =
           let w = wish_of t vs selection ws in
           let z = lines_accepted h l in
-          returns-listed w buffer s after (written_fits w (length buffer) z fits) (sym (size-numbered h) ∙ z) (size-listed h z).0 (size-listed h z).1
+          returns_listed w buffer s after (written_fits w (length buffer) z fits) (sym (size-numbered h) ∙ z) (size-listed h z).0 (size-listed h z).1
           (rw (wish_changes w) (bytes-by o))
 
-pub ruleset writing_call = (refuses-size, refuses-room, returns-empty, list-matches, list-room, returns-list)
+pub ruleset writing_call = (refuses-size, refuses-room, returns_empty, list-matches, list-room, returns_list)

@@ -38,19 +38,19 @@ use Rattle.restore.specs.declared.Restored.{Restored}
 unfoldable pub list : Wish → List ℕ
 list w = listing w.room.table (changes w)
 
-module _ (w : Wish) (lines : Lines w.room) (admitted : Admitted w) (replyRooms : ℕ → ℕ) (enough : (call : ℕ) → reply_limit ≤ replyRooms call) where
-  played : (bs : List ℕ) → play w.room replyRooms w.present bs ≡ feed (control_space w.room) fresh w.present bs
-  played bs = plays w.room admitted.table replyRooms enough w.present bs admitted.present
+module _ (w : Wish) (lines : Lines w.room) (admitted : Admitted w) (reply_rooms : ℕ → ℕ) (enough : (call : ℕ) → reply_limit ≤ reply_rooms call) where
+  played : (bs : List ℕ) → play w.room reply_rooms w.present bs ≡ feed (control_space w.room) fresh w.present bs
+  played bs = plays w.room admitted.table reply_rooms enough w.present bs admitted.present
 
   target-is_right : Right w.room (target w)
   target-is_right = target_right w admitted.present admitted.wanted
 
   -- ---- no sequence that fulfils the wish is shorter than the list
 
-  ends_at : (bs : List ℕ) → Fulfils w replyRooms bs → (feed (control_space w.room) fresh w.present bs).state ≡ target w
+  ends_at : (bs : List ℕ) → Fulfils w reply_rooms bs → (feed (control_space w.room) fresh w.present bs).state ≡ target w
   ends_at bs f = ap (λ p. p.state) (sym (played bs)) ∙ f.reached
 
-  least : (bs : List ℕ) → Fulfils w replyRooms bs → length (list w) ≤ length bs
+  least : (bs : List ℕ) → Fulfils w reply_rooms bs → length (list w) ≤ length bs
   unfolding list
   least bs f =
       let r = w.room in
@@ -62,14 +62,14 @@ module _ (w : Wish) (lines : Lines w.room) (admitted : Admitted w) (replyRooms :
 
   -- ---- where no change is beyond reach, the list fulfils the wish
 
-  listed : all_reachable w.room.table (changes w) ≡ true → play w.room replyRooms w.present (list w) ≡ acknowledged (length (changes w)) (target w)
+  listed : all_reachable w.room.table (changes w) ≡ true → play w.room reply_rooms w.present (list w) ≡ acknowledged (length (changes w)) (target w)
   unfolding list
   listed r =
       played (list w)
       ∙ play-listing w.room lines (changes w) w.present (all_sayable w admitted r) (wish_finds w admitted)
       ∙ ap (acknowledged (length (changes w))) (made-target w admitted)
 
-  shortest : all_reachable w.room.table (changes w) ≡ true → Shortest w replyRooms (list w)
+  shortest : all_reachable w.room.table (changes w) ≡ true → Shortest w reply_rooms (list w)
   unfolding list
   shortest r =
       record {
@@ -80,7 +80,7 @@ module _ (w : Wish) (lines : Lines w.room) (admitted : Admitted w) (replyRooms :
 
   -- ---- where one is, no byte sequence does: its value stays as it is
 
-  none : all_reachable w.room.table (changes w) ≡ false → (bs : List ℕ) → Fulfils w replyRooms bs → ⊥
+  none : all_reachable w.room.table (changes w) ≡ false → (bs : List ℕ) → Fulfils w reply_rooms bs → ⊥
   none r bs f =
       let b = wish_beyond w r in
       let v = get_or w.present b.number (pos 0) in
@@ -91,7 +91,7 @@ module _ (w : Wish) (lines : Lines w.room) (admitted : Admitted w) (replyRooms :
   -- ---- the answer
 
   lists : (buffer : List ℕ) → length (list w) ≤ length buffer → all_reachable w.room.table (changes w) ≡ true
-      → Listed w replyRooms (length buffer) (record { number = 0; bytes = length (list w); lines = length (changes w); buffer = sets buffer 0 (list w) })
+      → Listed w reply_rooms (length buffer) (record { number = 0; bytes = length (list w); lines = length (changes w); buffer = sets buffer 0 (list w) })
   lists buffer h r =
       record {
         shortest = rw (written_first buffer (list w) h) (shortest r);
@@ -102,15 +102,15 @@ module _ (w : Wish) (lines : Lines w.room) (admitted : Admitted w) (replyRooms :
         lines = lines_differing w;
       }
 
-  pub measured : SizeDemanded w replyRooms (size w)
+  pub measured : SizeDemanded w reply_rooms (size w)
   unfolding list
   measured = go (all_reachable w.room.table (changes w)) refl
     where
-      go : (r : Bool) → all_reachable w.room.table (changes w) ≡ r → SizeDemanded w replyRooms (size w)
+      go : (r : Bool) → all_reachable w.room.table (changes w) ≡ r → SizeDemanded w reply_rooms (size w)
       go false r = rw (size-refused w 7 (size-beyond w admitted r) (λ z. omega arith)) (beyond refl (none r))
       go true r = rw (size_told_lem w (size-within w admitted r)) (within refl (list w) (shortest r) refl (lines_differing w))
 
-  pub demanded : (buffer : List ℕ) → Demanded w replyRooms (length buffer) (restore w buffer)
+  pub demanded : (buffer : List ℕ) → Demanded w reply_rooms (length buffer) (restore w buffer)
   unfolding list
   demanded buffer = go (all_reachable w.room.table (changes w)) (leb (length (list w)) (length buffer)) refl refl
     where
@@ -122,7 +122,7 @@ module _ (w : Wish) (lines : Lines w.room) (admitted : Admitted w) (replyRooms :
       refuses n e h = refused-told w buffer n (number n e) h
 
       go : (r n : Bool) → all_reachable w.room.table (changes w) ≡ r → leb (length (list w)) (length buffer) ≡ n
-          → Demanded w replyRooms (length buffer) (restore w buffer)
+          → Demanded w reply_rooms (length buffer) (restore w buffer)
       go false n r e = rw (refuses 7 (list-unreachable w.room.table (length buffer) (changes w) r) (λ z. omega arith)) (unreachable refl (none r))
       go true false r e =
           let h = leb-false (length (list w)) (length buffer) e in
@@ -133,10 +133,10 @@ module _ (w : Wish) (lines : Lines w.room) (admitted : Admitted w) (replyRooms :
 
 -- the whole of it, over the promise that the line layer keeps
 pub demand_three : (w : Wish) (buffer : List ℕ) → DemandThree w (length buffer) (restore w buffer)
-demand_three w buffer admitted replyRooms enough = demanded w (promise w.room admitted.table) admitted replyRooms enough buffer
+demand_three w buffer admitted reply_rooms enough = demanded w (promise w.room admitted.table) admitted reply_rooms enough buffer
 
 pub size-demand : (w : Wish) → SizeDemand w (size w)
-size-demand w admitted replyRooms enough = measured w (promise w.room admitted.table) admitted replyRooms enough
+size-demand w admitted reply_rooms enough = measured w (promise w.room admitted.table) admitted reply_rooms enough
 
 -- so the writing call's promise is kept once it tells and writes what it should, and the size call's once it tells what it should
 pub told-restores : (w : Wish) (buffer : List ℕ) (r : Restored) (buffer' : List ℕ) → tells r buffer' ≡ restore w buffer → Restores w buffer r buffer'

@@ -19,10 +19,10 @@ module _ (w : Wish) where
   sizes-listed bytes lines e b l = told-sizes w (record { bytes = bytes; lines = lines; number = 0 }) (unfold size_told in rw (b, l) (sym (size_told_lem w e)))
 
 module _ (w : Wish) (buffer : List ℕ) where
-  pub returns-refused : (r : Restored) (n : ℕ) → restore_number w (length buffer) ≡ n → (n ≡ 0 → ⊥) → r.number ≡ n → r.bytes ≡ 0 → r.lines ≡ 0
+  pub returns_refused : (r : Restored) (n : ℕ) → restore_number w (length buffer) ≡ n → (n ≡ 0 → ⊥) → r.number ≡ n → r.bytes ≡ 0 → r.lines ≡ 0
       → Restores w buffer r buffer
-  returns-refused r n e h i b l = told-restores w buffer r buffer (unfold tells in rw (i, b, l) (sym (refused-told w buffer n e h)))
+  returns_refused r n e h i b l = told-restores w buffer r buffer (unfold tells in rw (i, b, l) (sym (refused-told w buffer n e h)))
 
-  pub returns-listed : (r : Restored) (buffer' : List ℕ) → restore_number w (length buffer) ≡ 0 → r.number ≡ 0 → r.bytes ≡ length (listing w.room.table (changes w))
+  pub returns_listed : (r : Restored) (buffer' : List ℕ) → restore_number w (length buffer) ≡ 0 → r.number ≡ 0 → r.bytes ≡ length (listing w.room.table (changes w))
       → r.lines ≡ length (changes w) → buffer' ≡ sets buffer 0 (listing w.room.table (changes w)) → Restores w buffer r buffer'
-  returns-listed r buffer' e i b l w' = told-restores w buffer r buffer' (unfold tells in rw (i, b, l, w') (sym (listed_told w buffer e)))
+  returns_listed r buffer' e i b l w' = told-restores w buffer r buffer' (unfold tells in rw (i, b, l, w') (sym (listed_told w buffer e)))

@@ -20,10 +20,10 @@ refusal p number = record { port = p; consumed = 0; sent = 0; fault = Nothing; n
 
 module _ {S : Type 0} (server : Server S) (s : S) (p : Port) (bs buffer : List ℕ) where
   -- a refusal
-  pub returns-refused : (n : ℕ) → (n ≡ 0 → ⊥) → Takes server n s p bs buffer (refusal p n) s buffer
+  pub returns_refused : (n : ℕ) → (n ≡ 0 → ⊥) → Takes server n s p bs buffer (refusal p n) s buffer
   unfolding tell tells
-  returns-refused zero h = absurd (h refl)
-  returns-refused (suc n) h = takes refl refl
+  returns_refused zero h = absurd (h refl)
+  returns_refused (suc n) h = takes refl refl
 
   -- what a call does with what it gathered
   module _ (g : Gathered) (h : Gathers p bs g) where
@@ -32,14 +32,14 @@ module _ {S : Type 0} (server : Server S) (s : S) (p : Port) (bs buffer : List �
     stepped = rw (gathered-by h) refl
 
     -- no 0D: no reply, and the port with the longer line
-    pub returns-waiting : g.finished ≡ false → Takes server 0 s p bs buffer (record { port = g.port; consumed = g.consumed; sent = 0; fault = Nothing; number = 0 }) s buffer
+    pub returns_waiting : g.finished ≡ false → Takes server 0 s p bs buffer (record { port = g.port; consumed = g.consumed; sent = 0; fault = Nothing; number = 0 }) s buffer
     unfolding tell tells served gathered waiting
-    returns-waiting w = takes (rw (stepped, w) refl) (rw (stepped, w) (refl, gathered-few h))
+    returns_waiting w = takes (rw (stepped, w) refl) (rw (stepped, w) (refl, gathered-few h))
 
     -- an 0D: the reply to the line is written, and the port is fresh
-    pub returns-finished : (q : Port) (n : ℕ) (f : Fault) (s' : S) (buffer' : List ℕ) → g.finished ≡ true → n ≡ length (finish server s (view g.port)).reply
+    pub returns_finished : (q : Port) (n : ℕ) (f : Fault) (s' : S) (buffer' : List ℕ) → g.finished ≡ true → n ≡ length (finish server s (view g.port)).reply
         → f ≡ (finish server s (view g.port)).fault
         → s' ≡ (finish server s (view g.port)).state → buffer' ≡ sets buffer 0 (finish server s (view g.port)).reply → view q ≡ fresh → q.len ≤ line_limit
         → Takes server 0 s p bs buffer (record { port = q; consumed = g.consumed; sent = n; fault = f; number = 0 }) s' buffer'
     unfolding tell tells served gathered replied
-    returns-finished q n x s' buffer' f l y v b e k = takes (rw (stepped, f, l, y, v, b) refl) (rw (stepped, f) (e, k))
+    returns_finished q n x s' buffer' f l y v b e k = takes (rw (stepped, f, l, y, v, b) refl) (rw (stepped, f) (e, k))

@@ -16,7 +16,7 @@ use Rattle.serial_port.specs.Port.{view, fresh, Gathers}
 use Rattle.serial_port.specs.Port.Gathering.{gathered-few}
 use Rattle.serial_port.specs.Call.{Answers, finish}
 use Rattle.serial_port.specs.Call.Finishing.{Finishes, finishes}
-use Rattle.serial_port.specs.Call.Rules.{refusal, returns-refused, returns-waiting, returns-finished}
+use Rattle.serial_port.specs.Call.Rules.{refusal, returns_refused, returns_waiting, returns_finished}
 use Rattle.serial_port.specs.Refusal.{call_number, claim_number, reply_limit}
 use Rattle.serial_port.specs.Refusal.Laws.{accepted, number-tested}
 use Rattle.serial_port.specs.Refusal.Number.{passed_claim}
@@ -29,7 +29,7 @@ use Rattle.serial_port.specs.declared.port.Gathered.{Gathered}
 
 module _ (r : Room) (vs : List ℤ) (p : Port) (bs buffer : List ℕ) (n : ℕ) (c : Called) (q : c ≡ refusal p n) (h : n ≡ 0 → ⊥) where
   pub taken_refused : n ≡ call_number r vs (length buffer) p.len → Answers r vs p bs buffer c vs buffer
-  taken_refused e = rw (← e, q) (returns-refused (control_space r) vs p bs buffer n h)
+  taken_refused e = rw (← e, q) (returns_refused (control_space r) vs p bs buffer n h)
 
   -- the port's claim was the only test left
   pub tested_refused : sound r.table ≡ true → values_sound r vs ≡ true → 64 ≤ length buffer → n ≡ claim_number p.len → Answers r vs p bs buffer c vs buffer
@@ -55,7 +55,7 @@ module _ (r : Room) (vs : List ℤ) (p : Port) (bs buffer : List ℕ) (g : Gathe
 
   pub served-waiting : not g.finished ≡ true
       → Answers r vs p bs buffer (record { port = g.port; consumed = g.consumed; sent = 0; fault = Nothing; number = 0 }) vs buffer
-  served-waiting w = rw number (returns-waiting (control_space r) vs p bs buffer g c (not-true g.finished w))
+  served-waiting w = rw number (returns_waiting (control_space r) vs p bs buffer g c (not-true g.finished w))
 
   pub served-finished : (a : Answered) (vs' : List ℤ) (buffer' : List ℕ) (q : Port) → not g.finished ≡ false
       → Finishes (control_space r) vs g.port buffer a vs' buffer' → view q ≡ fresh → q.len ≡ 0
@@ -63,7 +63,7 @@ module _ (r : Room) (vs : List ℤ) (p : Port) (bs buffer : List ℕ) (g : Gathe
   unfolding line_limit
   served-finished a vs' buffer' q w (finishes x f v) e z =
       rw number
-      (returns-finished (control_space r) vs p bs buffer g c q a.sent a.fault vs' buffer' (not-false g.finished w)
+      (returns_finished (control_space r) vs p bs buffer g c q a.sent a.fault vs' buffer' (not-false g.finished w)
       (past_by x ∙ zero-add (length (finish (control_space r) vs (view g.port)).reply)) f v (bytes-by x) e (omega arith))
 
 pub served-few : (p : Port) (bs : List ℕ) (g : Gathered) → Gathers p bs g → g.port.len ≤ 64

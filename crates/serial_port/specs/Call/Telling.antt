@@ -113,9 +113,9 @@ module _ (r : Room) (vs : List ℤ) (p : Port) (bs buffer : List ℕ) where
   call_kept q e seen few t h = takes h (rw e (seen, few))
 
 -- a port that is served claims at most 64 bytes
-pub served-claim : (r : Room) (vs : List ℤ) (replyRoom claimed : ℕ) → call_number r vs replyRoom claimed ≡ 0 → claimed ≤ line_limit
+pub served-claim : (r : Room) (vs : List ℤ) (reply_room claimed : ℕ) → call_number r vs reply_room claimed ≡ 0 → claimed ≤ line_limit
 unfolding line_limit
-served-claim r vs replyRoom claimed e = none_claim r vs replyRoom claimed (call_number r vs replyRoom claimed) refl e
+served-claim r vs reply_room claimed e = none_claim r vs reply_room claimed (call_number r vs reply_room claimed) refl e
 
 -- zero bytes given to a call that is served
 module _ (r : Room) (vs : List ℤ) (p : Port) (buffer : List ℕ) (e : call_number r vs (length buffer) p.len ≡ 0) where

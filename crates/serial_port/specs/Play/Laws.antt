@@ -82,21 +82,21 @@ pub keeps_right : (r : Room) → sound r.table ≡ true → Keeps (control_space
 keeps_right r s = answers_keep r (Right r) (λ vs l n c. values_stay_sound r vs l s c)
 
 -- over a sound table and right values no call is refused, and playing is feeding byte by byte
-module _ (r : Room) (is-sound : sound r.table ≡ true) (replyRooms : ℕ → ℕ) (enough : (call : ℕ) → reply_limit ≤ replyRooms call) where
-  serves : (call : ℕ) (vs : List ℤ) (v : View) → claim v ≤ line_limit → Right r vs → refusal r replyRooms call vs v ≡ 0
+module _ (r : Room) (is-sound : sound r.table ≡ true) (reply_rooms : ℕ → ℕ) (enough : (call : ℕ) → reply_limit ≤ reply_rooms call) where
+  serves : (call : ℕ) (vs : List ℤ) (v : View) → claim v ≤ line_limit → Right r vs → refusal r reply_rooms call vs v ≡ 0
   unfolding refusal
-  serves call vs v k c = accepted r vs (replyRooms call) (claim v) is-sound c (enough call) k
+  serves call vs v k c = accepted r vs (reply_rooms call) (claim v) is-sound c (enough call) k
 
   pub plays_from : (v : View) (vs : List ℤ) (bs : List ℕ) → claim v ≤ line_limit → Right r vs
-      → play_from (control_space r) (refusal r replyRooms) 0 (length bs) v vs bs ≡ feed (control_space r) v vs bs
-  plays_from v vs bs k c = play-feed (control_space r) (Right r) (keeps_right r is-sound) (refusal r replyRooms) serves 0 (length bs) v vs bs (omega arith) k c
+      → play_from (control_space r) (refusal r reply_rooms) 0 (length bs) v vs bs ≡ feed (control_space r) v vs bs
+  plays_from v vs bs k c = play-feed (control_space r) (Right r) (keeps_right r is-sound) (refusal r reply_rooms) serves 0 (length bs) v vs bs (omega arith) k c
 
-  pub plays : (vs : List ℤ) (bs : List ℕ) → Right r vs → play r replyRooms vs bs ≡ feed (control_space r) fresh vs bs
+  pub plays : (vs : List ℤ) (bs : List ℕ) → Right r vs → play r reply_rooms vs bs ≡ feed (control_space r) fresh vs bs
   unfolding play
   plays vs bs c = plays_from fresh vs bs fresh-few c
 
   -- no call of a play is refused
-  pub play-serves : (vs : List ℤ) (bs : List ℕ) → Right r vs → (play r replyRooms vs bs).refused ≡ false
+  pub play-serves : (vs : List ℤ) (bs : List ℕ) → Right r vs → (play r reply_rooms vs bs).refused ≡ false
   play-serves vs bs c = ap (λ p. p.refused) (plays vs bs c) ∙ feed-serves (control_space r) fresh vs bs
 
 -- a line of more than 64 bytes gets one 99, and what follows a fresh port

@@ -40,13 +40,13 @@ module _ {S : Type 0} (server : Server S) (refusal : ℕ → S → View → ℕ)
       go true h = rw (e, h) refl
       go false h = rw (e, h) refl
 
-module _ (r : Room) (replyRooms : ℕ → ℕ) (vs : List ℤ) (b : ℕ) (bs : List ℕ) where
+module _ (r : Room) (reply_rooms : ℕ → ℕ) (vs : List ℤ) (b : ℕ) (bs : List ℕ) where
   -- of a play on a table: its first call is refused with a number other than 0
-  pub play-refused : (refusal r replyRooms 0 vs fresh ≡ 0 → ⊥) → (play r replyRooms vs (b ∷ bs)).refused ≡ true
+  pub play-refused : (refusal r reply_rooms 0 vs fresh ≡ 0 → ⊥) → (play r reply_rooms vs (b ∷ bs)).refused ≡ true
   unfolding play
-  play-refused h = first-refused (control_space r) (refusal r replyRooms) 0 fresh vs b bs (length (b ∷ bs)) h
+  play-refused h = first-refused (control_space r) (refusal r reply_rooms) 0 fresh vs b bs (length (b ∷ bs)) h
 
   -- as where its reply buffer has under 64 bytes, whatever the table and the values are
-  pub short_refused : replyRooms 0 < reply_limit → (play r replyRooms vs (b ∷ bs)).refused ≡ true
+  pub short_refused : reply_rooms 0 < reply_limit → (play r reply_rooms vs (b ∷ bs)).refused ≡ true
   unfolding refusal reply_limit
-  short_refused h = play-refused (λ e. omega (arith, none_buffer r vs (replyRooms 0) (claim fresh) 0 (sym e) refl))
+  short_refused h = play-refused (λ e. omega (arith, none_buffer r vs (reply_rooms 0) (claim fresh) 0 (sym e) refl))

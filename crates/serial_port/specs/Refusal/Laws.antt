@@ -11,44 +11,44 @@ use Rattle.syntax.specs.Shape.{line_limit}
 use Rattle.serial_port.specs.Refusal.{call_number, claim_number, reply_limit}
 use Rattle.serial_port.specs.Refusal.Number.{claim-passed, claim-refused, reply_passed, reply_refused}
 
-pub number-table : (r : Room) (vs : List ℤ) (replyRoom claimed : ℕ) → sound r.table ≡ false → call_number r vs replyRoom claimed ≡ 1
+pub number-table : (r : Room) (vs : List ℤ) (reply_room claimed : ℕ) → sound r.table ≡ false → call_number r vs reply_room claimed ≡ 1
 unfolding call_number
-number-table r vs replyRoom claimed s = first_by (stops (table_refused r.table s))
+number-table r vs reply_room claimed s = first_by (stops (table_refused r.table s))
 
-pub number-values : (r : Room) (vs : List ℤ) (replyRoom claimed : ℕ) → sound r.table ≡ true → values_sound r vs ≡ false
-    → call_number r vs replyRoom claimed ≡ 2
+pub number-values : (r : Room) (vs : List ℤ) (reply_room claimed : ℕ) → sound r.table ≡ true → values_sound r vs ≡ false
+    → call_number r vs reply_room claimed ≡ 2
 unfolding call_number
-number-values r vs replyRoom claimed s g = first_by (passes (table_passed r.table s) (stops (values_refused r vs g)))
+number-values r vs reply_room claimed s g = first_by (passes (table_passed r.table s) (stops (values_refused r vs g)))
 
-pub number-buffer : (r : Room) (vs : List ℤ) (replyRoom claimed : ℕ) → sound r.table ≡ true → values_sound r vs ≡ true → replyRoom < reply_limit
-    → call_number r vs replyRoom claimed ≡ 3
+pub number-buffer : (r : Room) (vs : List ℤ) (reply_room claimed : ℕ) → sound r.table ≡ true → values_sound r vs ≡ true → reply_room < reply_limit
+    → call_number r vs reply_room claimed ≡ 3
 unfolding call_number
-number-buffer r vs replyRoom claimed s g h =
-    first_by (passes (table_passed r.table s) (passes (values_passed r vs g) (stops (reply_refused reply_limit replyRoom h))))
+number-buffer r vs reply_room claimed s g h =
+    first_by (passes (table_passed r.table s) (passes (values_passed r vs g) (stops (reply_refused reply_limit reply_room h))))
 
-pub number-claim : (r : Room) (vs : List ℤ) (replyRoom claimed : ℕ) → sound r.table ≡ true → values_sound r vs ≡ true → reply_limit ≤ replyRoom
-    → line_limit < claimed → call_number r vs replyRoom claimed ≡ 4
+pub number-claim : (r : Room) (vs : List ℤ) (reply_room claimed : ℕ) → sound r.table ≡ true → values_sound r vs ≡ true → reply_limit ≤ reply_room
+    → line_limit < claimed → call_number r vs reply_room claimed ≡ 4
 unfolding call_number
-number-claim r vs replyRoom claimed s g h k =
-    first_by (passes (table_passed r.table s) (passes (values_passed r vs g) (passes (reply_passed reply_limit replyRoom h) (stops (claim-refused claimed k)))))
+number-claim r vs reply_room claimed s g h k =
+    first_by (passes (table_passed r.table s) (passes (values_passed r vs g) (passes (reply_passed reply_limit reply_room h) (stops (claim-refused claimed k)))))
 
 -- when no refusal applies
-pub accepted : (r : Room) (vs : List ℤ) (replyRoom claimed : ℕ) → sound r.table ≡ true → values_sound r vs ≡ true
-    → reply_limit ≤ replyRoom → claimed ≤ line_limit → call_number r vs replyRoom claimed ≡ 0
+pub accepted : (r : Room) (vs : List ℤ) (reply_room claimed : ℕ) → sound r.table ≡ true → values_sound r vs ≡ true
+    → reply_limit ≤ reply_room → claimed ≤ line_limit → call_number r vs reply_room claimed ≡ 0
 unfolding call_number
-accepted r vs replyRoom claimed s p h k =
-    first_by (passes (table_passed r.table s) (passes (values_passed r vs p) (passes (reply_passed reply_limit replyRoom h) (passes (claim-passed claimed k) all))))
+accepted r vs reply_room claimed s p h k =
+    first_by (passes (table_passed r.table s) (passes (values_passed r vs p) (passes (reply_passed reply_limit reply_room h) (passes (claim-passed claimed k) all))))
 
 -- where the other tests are passed, the port's claim decides
-pub number-tested : (r : Room) (vs : List ℤ) (replyRoom claimed : ℕ) → sound r.table ≡ true → values_sound r vs ≡ true → reply_limit ≤ replyRoom
-    → call_number r vs replyRoom claimed ≡ claim_number claimed
+pub number-tested : (r : Room) (vs : List ℤ) (reply_room claimed : ℕ) → sound r.table ≡ true → values_sound r vs ≡ true → reply_limit ≤ reply_room
+    → call_number r vs reply_room claimed ≡ claim_number claimed
 unfolding call_number
-number-tested r vs replyRoom claimed s g h =
-    first-passed _ _ (table_passed r.table s) ∙ first-passed _ _ (values_passed r vs g) ∙ first-passed _ _ (reply_passed reply_limit replyRoom h)
+number-tested r vs reply_room claimed s g h =
+    first-passed _ _ (table_passed r.table s) ∙ first-passed _ _ (values_passed r vs g) ∙ first-passed _ _ (reply_passed reply_limit reply_room h)
     ∙ first-last (claim_number claimed)
 
 -- of a port's claim, only whether it is over 64 counts: a port and its view are refused alike
-pub refused-alike : (r : Room) (vs : List ℤ) (replyRoom claimed other : ℕ) → claimed ≤ line_limit → other ≤ line_limit
-    → call_number r vs replyRoom claimed ≡ call_number r vs replyRoom other
+pub refused-alike : (r : Room) (vs : List ℤ) (reply_room claimed other : ℕ) → claimed ≤ line_limit → other ≤ line_limit
+    → call_number r vs reply_room claimed ≡ call_number r vs reply_room other
 unfolding call_number
-refused-alike r vs replyRoom claimed other h k = rw (claim-passed claimed h, claim-passed other k) refl
+refused-alike r vs reply_room claimed other h k = rw (claim-passed claimed h, claim-passed other k) refl

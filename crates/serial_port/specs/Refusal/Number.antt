@@ -6,18 +6,18 @@ use Rattle.room.specs.Refusal.Laws.{test_passed, test_refused, passed_test}
 use Rattle.syntax.specs.Shape.{line_limit}
 use Rattle.serial_port.specs.Refusal.{claim_number, reply_number}
 
-module _ (least replyRoom : ℕ) where
-  pub reply_passed : least ≤ replyRoom → reply_number least replyRoom ≡ 0
+module _ (least reply_room : ℕ) where
+  pub reply_passed : least ≤ reply_room → reply_number least reply_room ≡ 0
   unfolding reply_number
-  reply_passed h = test_passed (leb least replyRoom) 3 (le-leb least replyRoom h)
+  reply_passed h = test_passed (leb least reply_room) 3 (le-leb least reply_room h)
 
-  pub reply_refused : replyRoom < least → reply_number least replyRoom ≡ 3
+  pub reply_refused : reply_room < least → reply_number least reply_room ≡ 3
   unfolding reply_number
-  reply_refused h = test_refused (leb least replyRoom) 3 (lt-leb least replyRoom h)
+  reply_refused h = test_refused (leb least reply_room) 3 (lt-leb least reply_room h)
 
-  pub passed_reply : reply_number least replyRoom ≡ 0 → least ≤ replyRoom
+  pub passed_reply : reply_number least reply_room ≡ 0 → least ≤ reply_room
   unfolding reply_number
-  passed_reply e = leb-true least replyRoom (passed_test (leb least replyRoom) 2 e)
+  passed_reply e = leb-true least reply_room (passed_test (leb least reply_room) 2 e)
 
 module _ (claimed : ℕ) where
   pub claim-passed : claimed ≤ line_limit → claim_number claimed ≡ 0
@@ -34,11 +34,11 @@ module _ (claimed : ℕ) where
 
 -- ---- the number that code tells, by the test that it made
 
-pub tells-short : (least replyRoom : ℕ) → replyRoom < least → 3 ≡ reply_number least replyRoom
-tells-short least replyRoom h = sym (reply_refused least replyRoom h)
+pub tells-short : (least reply_room : ℕ) → reply_room < least → 3 ≡ reply_number least reply_room
+tells-short least reply_room h = sym (reply_refused least reply_room h)
 
-pub tells-room : (least replyRoom : ℕ) → least ≤ replyRoom → 0 ≡ reply_number least replyRoom
-tells-room least replyRoom h = sym (reply_passed least replyRoom h)
+pub tells-room : (least reply_room : ℕ) → least ≤ reply_room → 0 ≡ reply_number least reply_room
+tells-room least reply_room h = sym (reply_passed least reply_room h)
 
 pub tells-over : (claimed : ℕ) → 64 < claimed → 4 ≡ claim_number claimed
 unfolding line_limit

@@ -110,11 +110,11 @@ module _ (r : Room) (is-sound : sound r.table ≡ true) where
       go false e rest = waits c cs p vs bs k g h.0 made rest e
 
   -- from a fresh port they do what `play` says
-  pub calls_play : (replyRooms : ℕ → ℕ) → ((call : ℕ) → reply_limit ≤ replyRooms call)
+  pub calls_play : (reply_rooms : ℕ → ℕ) → ((call : ℕ) → reply_limit ≤ reply_rooms call)
       → (cs : List Made) (p : Port) (vs : List ℤ) (bs : List ℕ) → AsFresh p → Right r vs → Plays r cs p vs bs
-      → Does cs p vs (play r replyRooms vs bs)
-  calls_play replyRooms enough cs p vs bs f g h =
-      rw (plays r is-sound replyRooms enough vs bs g, ← f.seen) (calls_feed cs p vs bs f.few g h)
+      → Does cs p vs (play r reply_rooms vs bs)
+  calls_play reply_rooms enough cs p vs bs f g h =
+      rw (plays r is-sound reply_rooms enough vs bs g, ← f.seen) (calls_feed cs p vs bs f.few g h)
 
   -- ---- calls can be made
 
