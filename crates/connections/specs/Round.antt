@@ -1,7 +1,4 @@
 -- Whose turn it is: the round begins behind the last served, goes up to 31 and on from 0, and the first in it that waits is next.
-pub mod Fair
-pub mod Laws
-pub mod Seeking
 use Rattle.std.specs.Prelude.{Bool, false, cond, ◌&&◌, List, ℕ, zero, suc, ◌+◌, ◌%◌, ltb, get_or}
 use Rattle.connections.specs.declared.round.Served.{Served}
 use Rattle.connections.specs.declared.round.Served.TheVariants.{Nobody, One}

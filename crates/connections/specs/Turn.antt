@@ -1,17 +1,7 @@
 -- A turn: the next connection that waits is served with one port call on its waiting bytes.
-pub mod Exactly
-pub mod Fair
-pub mod First
-pub mod Kept
-pub mod Laws
-pub mod Making
 pub mod Number
 pub mod Picking
-pub mod Playable
-pub mod Played
 pub mod Single
-pub mod TakenOut
-pub mod Whole
 use Rattle.std.specs.Prelude.{◌≡◌, Bool, true, cond, ◌&&◌, List, [], ◌∷◌, ℕ, zero, suc, eqb, leb, ℤ, length, set}
 use Rattle.text.specs.Every.{every}
 use Rattle.room.specs.Refusal.{first_refusal}

@@ -4,7 +4,6 @@ pub mod Calls
 pub mod Feed
 pub mod Kept
 pub mod Laws
-pub mod Refused
 use Rattle.std.specs.Prelude.{Bool, true, false, cond, List, [], ◌∷◌, ℕ, zero, suc, eqb, ℤ, length, drop}
 use Rattle.text.specs.Cut.{has}
 use Rattle.values.specs.Room.{Room}

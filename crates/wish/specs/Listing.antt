@@ -1,16 +1,9 @@
 -- The restore list: one set line for each parameter that differs, in value order, and what the two restore calls answer, that for its size and that which writes it.
 pub mod Admitting
-pub mod Beyond
-pub mod Counted
-pub mod Differing
 pub mod Laws
 pub mod Numbers
-pub mod Reach
-pub mod Rows
-pub mod Settable
 pub mod Sizing
 pub mod Telling
-pub mod Wanted
 use Rattle.std.specs.Prelude.{Bool, true, false, cond, ◌&&◌, ◌≡◌, List, [], ◌∷◌, ◌++◌, ℕ, zero, suc, leb, ℤ, length}
 use Rattle.std.proofs.lemmas.List.Edits.{sets}
 use Rattle.room.specs.Refusal.{first_refusal}

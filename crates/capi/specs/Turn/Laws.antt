@@ -7,10 +7,10 @@ use Rattle.values.specs.Room.{Room}
 use Rattle.line.specs.Fault.Laws.{none_numbers}
 use Rattle.line.specs.declared.fault.Fault.TheVariants.{Nothing}
 use Rattle.connections.specs.Round.{last_after}
-use Rattle.connections.specs.Round.Seeking.{last_nobody, last_one}
+use Rattle.connections.proofs.Laws.Round.Seeking.{last_nobody, last_one}
 use Rattle.connections.specs.Turn.{Asked, Told, Turns, chosen, turn, turn_number}
-use Rattle.connections.specs.Turn.Kept.{Leaves, leaves_all, leaves_others, nobody_told, refused-told, served-place, turn-kept}
-use Rattle.connections.specs.Turn.Laws.{turn_number_lem}
+use Rattle.connections.proofs.Laws.Turn.Kept.{Leaves, leaves_all, leaves_others, nobody_told, refused-told, served-place, turn-kept}
+use Rattle.connections.proofs.Laws.Turn.Laws.{turn_number_lem}
 use Rattle.connections.specs.declared.round.Served.{Served}
 use Rattle.connections.specs.declared.round.Served.TheVariants.{Nobody, One}
 use Rattle.capi.specs.Connections.{connection_of, row_of}

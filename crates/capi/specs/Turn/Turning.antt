@@ -12,9 +12,10 @@ use Rattle.serial_port.specs.Server.{control_space}
 use Rattle.connections.specs.Connections.{closed, port_at}
 use Rattle.connections.specs.Survey.{nothing_noted, surveyed_from}
 use Rattle.connections.specs.Turn.{Asked, Told, bytes_of, turn}
-use Rattle.connections.specs.Turn.Picking.{picked, picked-below}
+use Rattle.connections.specs.Turn.Picking.{picked}
+use Rattle.connections.proofs.Laws.Turn.Picking.{picked-below}
 use Rattle.connections.specs.Turn.Single.{TurnsOne}
-use Rattle.connections.specs.Turn.TakenOut.{Back, misfit_told, taken_back, taken_field, taken_nobody}
+use Rattle.connections.proofs.Laws.Turn.TakenOut.{Back, misfit_told, taken_back, taken_field, taken_nobody}
 use Rattle.connections.specs.declared.connection.Connection.{Connection}
 use Rattle.connections.specs.declared.round.Served.{Served}
 use Rattle.connections.specs.declared.round.Served.TheVariants.{Nobody, One}

@@ -6,7 +6,6 @@ use Rattle.std.proofs.Math.Bool.{and-false}
 use native.Mathlib.Omega.{arith}
 use borrow.Author.Tests.{eq-eqb, ne_eqb, le-leb, lt-leb, leb-true}
 use Rattle.connections.specs.Round.{waits_by, next}
-use Rattle.connections.specs.Round.Laws.{Chosen, nobody, one, next-chosen}
 use Rattle.connections.specs.declared.round.Served.{Served}
 use Rattle.connections.specs.declared.round.Served.TheVariants.{Nobody, One}
 
@@ -38,19 +37,5 @@ module _ (flags : List Bool) (counts : List ℕ) (last : ℕ) where
   pub pick_one : (t : Served) (i : ℕ) → length counts ≡ 32 → last ≤ 31 → t ≡ next last (waits_by flags counts) → t ≡ One i → i ≡ picked flags counts last
   unfolding number_of
   pick_one t i n l q h = sym (picked_next n l ∙ ap number_of (sym q ∙ h))
-
-  -- it stands in a row of 32
-  pub picked-below : picked flags counts last < 32
-  unfolding picked number_of
-  picked-below = go (eqb (length counts) 32) (leb last 31) refl
-    where
-      below : (s : Served) → Chosen last (waits_by flags counts) s → number_of s < 32
-      below Nobody (nobody h) = omega arith
-      below (One i) (one j l w h) = l
-
-      go : (b c : Bool) → leb last 31 ≡ c → cond (b && c) (number_of (next last (waits_by flags counts))) 0 < 32
-      go true true e = let k : last ≤ 31 = leb-true last 31 e in below (next last (waits_by flags counts)) (next-chosen last (waits_by flags counts) (omega arith))
-      go true false e = omega arith
-      go false c e = omega arith
 
 pub ruleset picking = (pick_counts, pick_last, pick_nobody, pick_one)

@@ -1,5 +1,4 @@
 -- A turn for the connection that was taken out of the row, by what was noted of the others.
-pub mod Rules
 use Rattle.std.specs.Prelude.{◌≡◌, Bool, List, ℕ, ℤ, length, get_or, set}
 use Rattle.values.specs.Room.{Room}
 use Rattle.line.specs.declared.fault.Fault.TheVariants.{Nothing}

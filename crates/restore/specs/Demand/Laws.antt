@@ -22,11 +22,11 @@ use Rattle.restore.specs.Demand.Lines.Promise.{promise}
 use Rattle.restore.specs.Demand.Lines.Reach.{Stays, keeps_unreachable}
 use Rattle.restore.specs.Demand.Lines.Price.{potential, lowers, price-reached, price-listing}
 use Rattle.wish.specs.Listing.{Admitted, changes, listing, all_reachable, list_number, restore, restore_number, size}
-use Rattle.wish.specs.Listing.Beyond.{wish_beyond}
-use Rattle.wish.specs.Listing.Counted.{lines_differing}
-use Rattle.wish.specs.Listing.Differing.{made-target, wish_differ, wish_finds}
+use Rattle.wish.proofs.Laws.Listing.Beyond.{wish_beyond}
+use Rattle.wish.proofs.Laws.Listing.Counted.{lines_differing}
+use Rattle.wish.proofs.Laws.Listing.Differing.{made-target, wish_differ, wish_finds}
 use Rattle.wish.specs.Listing.Numbers.{list-fits, list-long, list-unreachable, number-list}
-use Rattle.wish.specs.Listing.Reach.{all_sayable}
+use Rattle.wish.proofs.Laws.Listing.Reach.{all_sayable}
 use Rattle.wish.specs.Listing.Sizing.{size-beyond, size-refused, size_told_lem, size-within}
 use Rattle.wish.specs.Listing.Telling.{listed_told, refused-told}
 use Rattle.restore.specs.Demand.Pair.{paired}

@@ -16,9 +16,9 @@ use Rattle.serial_port.specs.Port.{fresh}
 use Rattle.serial_port.specs.Play.{feed}
 use Rattle.serial_port.specs.Play.Acknowledged.{acknowledged, line_acknowledged, none_acknowledged}
 use Rattle.wish.specs.Listing.{Change, listing}
-use Rattle.wish.specs.Listing.Differing.{AllOf, Finds, made}
+use Rattle.wish.proofs.Laws.Listing.Differing.{AllOf, Finds, made}
 use Rattle.wish.specs.Listing.Laws.{listing-first, listing_none}
-use Rattle.wish.specs.Listing.Reach.{Sayable}
+use Rattle.wish.proofs.Laws.Listing.Reach.{Sayable}
 use Rattle.restore.specs.Demand.Lines.{Lines, Said}
 
 module _ (r : Room) (lines : Lines r) where

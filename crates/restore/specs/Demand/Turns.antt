@@ -3,7 +3,7 @@ use Rattle.std.specs.Prelude.{◌≡◌, List, map, ℕ, ◌≤◌, ◌<◌, len
 use Rattle.serial_port.specs.Play.Calls.{AsFresh}
 use Rattle.serial_port.specs.declared.port.Port.{Port}
 use Rattle.connections.specs.Turn.{Made}
-use Rattle.connections.specs.Turn.Played.{PlaysTo, call_of, turns_play}
+use Rattle.connections.proofs.Laws.Turn.Played.{PlaysTo, call_of, turns_play}
 use Rattle.wish.specs.Target.{Wish}
 use Rattle.restore.specs.Demand.{Restores, Sizes}
 use Rattle.restore.specs.Demand.Made.{Playing, Reaches, Fulfilling, over_calls, size-over_calls}

@@ -7,7 +7,7 @@ use Rattle.room.specs.declared.label.Bearer.{Bearer}
 use Rattle.room.specs.declared.label.Bearer.TheVariants.{Only, NotOne}
 use Rattle.room.specs.Label.Length.{label-part}
 use Rattle.wish.specs.Listing.{borne_once}
-use Rattle.wish.specs.Listing.Reach.{bearer-once, bearer-otherwise}
+use Rattle.wish.proofs.Laws.Listing.Reach.{bearer-once, bearer-otherwise}
 
 module _ (t : List ℕ) (m : Module) (n : ℕ) (e : n ≡ length (label t m)) where
   module _ (f : Bearer) (g : f ≡ bearer t (take (m.place + 1 + n - (m.place + 1)) (drop (m.place + 1) t))) where

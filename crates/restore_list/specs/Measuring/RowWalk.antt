@@ -9,7 +9,7 @@ use Rattle.values.specs.Parameters.{parameters_of}
 use Rattle.values.specs.Parameters.Laws.{length-parameters_of, parameter_of, parameters_of-at}
 use Rattle.room.specs.declared.table.Module.{Module}
 use Rattle.wish.specs.Listing.{Change, changes_of}
-use Rattle.wish.specs.Listing.Rows.{changes-from, changes-past}
+use Rattle.wish.proofs.Laws.Listing.Rows.{changes-from, changes-past}
 use Rattle.restore_list.specs.Measuring.{row_changes}
 use Rattle.values.specs.Values.{equal}
 

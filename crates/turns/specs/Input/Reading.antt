@@ -5,7 +5,7 @@ use Rattle.std.proofs.Common.{◌∙◌, arith}
 use Rattle.std.proofs.Math.ListN.{length}
 use Rattle.text.specs.Cut.Part.{part-counts}
 use Rattle.values.specs.Room.{Room}
-use Rattle.connections.specs.Turn.Laws as turn
+use Rattle.connections.proofs.Laws.Turn.Laws as turn
 use Rattle.connections.specs.declared.connection.Connection.{Connection}
 use Rattle.turns.specs.Play.{unplayed, switched_to, turned_to, Plays, plays_nothing, plays_switch, plays_turn}
 use Rattle.turns.specs.declared.play.Played.{Played}

@@ -1,6 +1,6 @@
 -- `last_after`: nobody, or the one that was served.
 use borrow.Author.Rules.{rules}
-use Rattle.connections.specs.Round.Seeking.{lasting}
+use Rattle.connections.proofs.Laws.Round.Seeking.{lasting}
 use Rattle.connections.proofs.round.last_after.Statement.{statement}
 use Rattle.connections.proofs.round.last_after.Tie as tie
 

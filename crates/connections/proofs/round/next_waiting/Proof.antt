@@ -3,7 +3,7 @@ use Prim.Native.Nat.{◌-◌}
 use Rattle.connections.specs.Round.{waits_by}
 use borrow.Author.Rules.{rules}
 use Rattle.connections.proofs.round.next_waiting.Statement.{statement}
-use Rattle.connections.specs.Round.Seeking.{Sought, seeking}
+use Rattle.connections.proofs.Laws.Round.Seeking.{Sought, seeking}
 use Rattle.connections.proofs.round.next_waiting.Tie as tie
 
 abbrev invariant-loop-passed : tie.invariant-loop-passed

@@ -1,6 +1,6 @@
 -- `waits`: a closed connection does not wait, an open one by its count.
 use borrow.Author.Rules.{rules}
-use Rattle.connections.specs.Round.Seeking.{seeking}
+use Rattle.connections.proofs.Laws.Round.Seeking.{seeking}
 use Rattle.connections.proofs.round.waits.Statement.{statement}
 use Rattle.connections.proofs.round.waits.Tie as tie
 

@@ -3,8 +3,8 @@ use Rattle.std.proofs.Common.{◌≡◌, ◌∙◌, ap, arith}
 use Rattle.values.specs.Room.{room_of}
 use Rattle.connections.specs.Survey.{nothing_noted, surveyed_from}
 use Rattle.connections.specs.Turn.{asked}
-use Rattle.connections.specs.Turn.Picking.{picked-below}
-use Rattle.connections.specs.Turn.Whole.{turn-lent, turn-misfit}
+use Rattle.connections.proofs.Laws.Turn.Picking.{picked-below}
+use Rattle.connections.proofs.Laws.Turn.Whole.{turn-lent, turn-misfit}
 use Rattle.connections.specs.declared.survey.Survey.{Survey}
 use Rattle.connections.proofs.turn.turn.Goals as goal
 

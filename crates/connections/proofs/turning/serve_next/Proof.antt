@@ -1,6 +1,6 @@
 -- `serve_next`: its own part of the bytes, and what the port call promises.
 use borrow.Author.Rules.{rules}
-use Rattle.connections.specs.Turn.Single.Rules.{waiting}
+use Rattle.connections.proofs.Laws.Turn.Single.Rules.{waiting}
 use Rattle.connections.proofs.turning.serve_next.Statement.{statement}
 use Rattle.connections.proofs.turning.serve_next.Tie as tie
 

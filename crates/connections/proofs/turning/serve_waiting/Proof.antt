@@ -1,6 +1,6 @@
 -- `serve_waiting`: by whose turn it is.
 use borrow.Author.Rules.{rules}
-use Rattle.connections.specs.Turn.Single.Rules.{waiting}
+use Rattle.connections.proofs.Laws.Turn.Single.Rules.{waiting}
 use Rattle.connections.proofs.turning.serve_waiting.Statement.{statement}
 use Rattle.connections.proofs.turning.serve_waiting.Tie as tie
 

@@ -1,6 +1,6 @@
 -- `turn_one`: the number, then whose turn it is.
 use borrow.Author.Rules.{rules}
-use Rattle.connections.specs.Turn.Single.Rules.{turning}
+use Rattle.connections.proofs.Laws.Turn.Single.Rules.{turning}
 use Rattle.connections.proofs.turning.turn_one.Statement.{statement}
 use Rattle.connections.proofs.turning.turn_one.Tie as tie
 

@@ -9,7 +9,7 @@ use Rattle.syntax.specs.Shape.{line_limit}
 use Rattle.line.specs.Answer.{answer}
 use Rattle.serial_port.specs.Play.Laws.{Right}
 use Rattle.wish.specs.Listing.{Change, listing}
-use Rattle.wish.specs.Listing.Differing.{Differ, none, other, same}
+use Rattle.wish.proofs.Laws.Listing.Differing.{Differ, none, other, same}
 use Rattle.wish.specs.Listing.Laws.{listing-first, listing_none}
 use Rattle.restore.specs.Demand.Lines.{price, Effect, nothing, puts, Lines}
 use Rattle.values.specs.Values.Laws.{equal-refl, value_permitted, values_many, at-inside}

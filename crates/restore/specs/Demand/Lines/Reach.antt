@@ -11,7 +11,7 @@ use Rattle.line.specs.Answer.{answer}
 use Rattle.serial_port.specs.Server.{control_space}
 use Rattle.serial_port.specs.Play.Kept.{Keeps, answers_keep}
 use Rattle.wish.specs.Listing.{reachable}
-use Rattle.wish.specs.Listing.Reach.{reachable-by}
+use Rattle.wish.proofs.Laws.Listing.Reach.{reachable-by}
 use Rattle.restore.specs.Demand.Lines.{Effect, nothing, puts, Lines}
 
 -- the parameters that lines can set are those within reach

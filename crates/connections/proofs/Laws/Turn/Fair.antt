@@ -4,10 +4,10 @@ use Rattle.std.proofs.Common.{◌∙◌, ap, arith}
 use Rattle.std.proofs.lemmas.List.{length-map}
 use Rattle.values.specs.Room.{Room}
 use Rattle.connections.specs.Round.{next, last_after}
-use Rattle.connections.specs.Round.Fair as round
+use Rattle.connections.proofs.Laws.Round.Fair as round
 use Rattle.connections.specs.Turn.{Turns, Made}
-use Rattle.connections.specs.Turn.First.{waiting, serves_next}
-use Rattle.connections.specs.Turn.Laws.{accepted, accepts}
+use Rattle.connections.proofs.Laws.Turn.First.{waiting, serves_next}
+use Rattle.connections.proofs.Laws.Turn.Laws.{accepted, accepts}
 use Rattle.connections.specs.declared.round.Served.TheVariants.{One}
 
 -- turns made one after the other: each is accepted, and is given the last served that the one before left. Between two turns any connection may be opened, closed or replaced:

@@ -24,13 +24,13 @@ use Rattle.connections.specs.Connections.{closed, port_at, flags, open_at}
 use Rattle.connections.specs.Connections.Number.{open_flag}
 use Rattle.connections.specs.Parts.{connection_count, total, counts_right, part_start, waiting_of}
 use Rattle.connections.specs.Parts.Laws.{part-within}
-use Rattle.connections.specs.Round.Seeking.{waits-open, waits-closed}
+use Rattle.connections.proofs.Laws.Round.Seeking.{waits-open, waits-closed}
 use Rattle.connections.specs.Turn.{Asked, row_number, claims_few, turn_number, bytes_of, Told, turn, answer, Turns, Made}
-use Rattle.connections.specs.Turn.Exactly.{made, number_by_lem}
-use Rattle.connections.specs.Turn.First.{waiting, alone-served}
-use Rattle.connections.specs.Turn.Kept.{leaves_all, leaves_others, turn-kept}
-use Rattle.connections.specs.Turn.Laws.{told-by, turn-call, turn_number_lem}
-use Rattle.connections.specs.Turn.Played.{PlaysTo, same-answers}
+use Rattle.connections.proofs.Laws.Turn.Exactly.{made, number_by_lem}
+use Rattle.connections.proofs.Laws.Turn.First.{waiting, alone-served}
+use Rattle.connections.proofs.Laws.Turn.Kept.{leaves_all, leaves_others, turn-kept}
+use Rattle.connections.proofs.Laws.Turn.Laws.{told-by, turn-call, turn_number_lem}
+use Rattle.connections.proofs.Laws.Turn.Played.{PlaysTo, same-answers}
 use Rattle.connections.specs.declared.connection.Connection.{Connection}
 use Rattle.connections.specs.declared.round.Served.{Served}
 use Rattle.connections.specs.declared.round.Served.TheVariants.{Nobody, One}

@@ -12,9 +12,9 @@ use Rattle.serial_port.specs.Port.{view}
 use Rattle.serial_port.specs.Server.{control_space}
 use Rattle.connections.specs.Connections.{flags, port_at}
 use Rattle.connections.specs.Round.{waits_by}
-use Rattle.connections.specs.Round.Laws.{Chosen, nobody, one}
+use Rattle.connections.proofs.Laws.Round.Laws.{Chosen, nobody, one}
 use Rattle.connections.specs.Turn.{Asked, Left, Turns, answer, busy, bytes_of, chosen, idle, put_back, tell, turn, turn_number, turns}
-use Rattle.connections.specs.Turn.Laws.{accepted, chosen-first, served-number}
+use Rattle.connections.proofs.Laws.Turn.Laws.{accepted, chosen-first, served-number}
 use Rattle.connections.specs.declared.connection.Connection.{Connection}
 use Rattle.connections.specs.declared.round.Served.{Served}
 use Rattle.connections.specs.declared.round.Served.TheVariants.{Nobody, One}

@@ -18,7 +18,7 @@ use Rattle.values.specs.declared.parameter.ParameterFound.TheVariants.{At}
 use Rattle.wish.specs.Target.{Wish, target}
 use Rattle.wish.specs.Target.Laws.{target_right}
 use Rattle.wish.specs.Listing.{Admitted, Change, all_reachable, borne_once, changes, reachable}
-use Rattle.wish.specs.Listing.Differing.{AllOf, differ-each, wish_differ}
+use Rattle.wish.proofs.Laws.Listing.Differing.{AllOf, differ-each, wish_differ}
 use Rattle.wish.specs.Listing.Laws.{reachable-both}
 
 -- ---- a label that one module bears

@@ -8,7 +8,7 @@ use Rattle.serial_port.specs.declared.port.Called.{Called}
 use Rattle.serial_port.specs.declared.port.Port.{Port}
 use Rattle.connections.specs.Connections.{port_at}
 use Rattle.connections.specs.Turn.{Turns, Made, bytes_of, answer}
-use Rattle.connections.specs.Turn.Laws.{accepted, accepts, turn-call}
+use Rattle.connections.proofs.Laws.Turn.Laws.{accepted, accepts, turn-call}
 use Rattle.connections.specs.declared.round.Served.TheVariants.{One}
 
 -- the port call that a turn made for connection c

@@ -3,7 +3,7 @@ use Rattle.std.specs.Prelude.{◌≡◌, refl, Bool, true, false, List, [], ◌�
 use Rattle.std.proofs.Common.{sym, ◌∙◌, arith}
 use Rattle.std.proofs.Math.Decide.{dec_le}
 use Rattle.connections.specs.Round.{next, last_after}
-use Rattle.connections.specs.Round.Laws.{ahead, NoneBefore, Chosen, nobody, one, next-chosen}
+use Rattle.connections.proofs.Laws.Round.Laws.{ahead, NoneBefore, Chosen, nobody, one, next-chosen}
 use Rattle.connections.specs.declared.round.Served.{Served}
 use Rattle.connections.specs.declared.round.Served.TheVariants.{Nobody, One}
 

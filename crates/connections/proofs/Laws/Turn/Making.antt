@@ -7,10 +7,10 @@ use Rattle.serial_port.specs.Call.Telling.{call-field}
 use Rattle.connections.specs.Connections.{closed, port_at, flags, open_at}
 use Rattle.connections.specs.Connections.Number.{open_flag}
 use Rattle.connections.specs.Round.{waits_by}
-use Rattle.connections.specs.Round.Laws.{Chosen, nobody, one}
+use Rattle.connections.proofs.Laws.Round.Laws.{Chosen, nobody, one}
 use Rattle.connections.specs.Serving.{Serves, serves}
 use Rattle.connections.specs.Turn.{Asked, turn_number, chosen, bytes_of, Told, idle, busy, tell, turn, answer, put_back, Turns, turns}
-use Rattle.connections.specs.Turn.Laws.{chosen-first, waits-both}
+use Rattle.connections.proofs.Laws.Turn.Laws.{chosen-first, waits-both}
 use Rattle.connections.specs.declared.round.Served.{Served}
 use Rattle.connections.specs.declared.round.Served.TheVariants.{Nobody, One}
 use Rattle.connections.specs.declared.serving.PortAnswer.{PortAnswer}

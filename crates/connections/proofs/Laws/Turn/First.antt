@@ -5,9 +5,9 @@ use Rattle.std.proofs.Math.Decide.{dec_le}
 use Rattle.values.specs.Room.{Room}
 use Rattle.connections.specs.Connections.{flags, open_at}
 use Rattle.connections.specs.Round.{waits_by, next}
-use Rattle.connections.specs.Round.Laws.{ahead, NoneBefore, Chosen, nobody, one}
+use Rattle.connections.proofs.Laws.Round.Laws.{ahead, NoneBefore, Chosen, nobody, one}
 use Rattle.connections.specs.Turn.{Asked, turn_number, turn, tell, chosen, idle, busy, Told, Turns}
-use Rattle.connections.specs.Turn.Laws.{ServedAs, nobody_served, one_served, accepts, chosen-first, nobody_changes, served-as, told-by, waits-both}
+use Rattle.connections.proofs.Laws.Turn.Laws.{ServedAs, nobody_served, one_served, accepts, chosen-first, nobody_changes, served-as, told-by, waits-both}
 use Rattle.connections.specs.declared.connection.Connection.{Connection}
 use Rattle.connections.specs.declared.round.Served.{Served}
 use Rattle.connections.specs.declared.round.Served.TheVariants.{Nobody, One}

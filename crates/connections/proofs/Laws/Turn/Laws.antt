@@ -22,7 +22,7 @@ use Rattle.serial_port.specs.Server.{control_space}
 use Rattle.connections.specs.Connections.{closed, port_at, flags, open_at}
 use Rattle.connections.specs.Parts.{connection_count, total, counts_right}
 use Rattle.connections.specs.Round.{waits_by}
-use Rattle.connections.specs.Round.Laws.{Chosen, one, next-chosen}
+use Rattle.connections.proofs.Laws.Round.Laws.{Chosen, one, next-chosen}
 use Rattle.connections.specs.Turn.{Asked, row_number, claims_few, ports_number, turn_number, chosen, bytes_of, Told, idle, busy, tell, turn, answer, PutBack, put_back, Left, Turns, turns, tells}
 use Rattle.connections.specs.declared.connection.Connection.{Connection}
 use Rattle.connections.specs.declared.round.Served.{Served}

@@ -16,12 +16,12 @@ use Rattle.connections.specs.Connections.{closed, flags, port_at}
 use Rattle.connections.specs.Survey.{nothing_noted, surveyed_from}
 use Rattle.connections.specs.Survey.Laws.{looked_over}
 use Rattle.connections.specs.Turn.{Asked, Told, Turns, answer, bytes_of, chosen, idle, tells, turn, turn_number}
-use Rattle.connections.specs.Turn.Exactly.{exactly_ten, row_length}
-use Rattle.connections.specs.Turn.Kept.{refused-told}
-use Rattle.connections.specs.Turn.Laws.{ServedAs, nobody_served, one_served, accepted, nobody_changes, served-as, told-by, turn-call, turn_number_lem}
+use Rattle.connections.proofs.Laws.Turn.Exactly.{exactly_ten, row_length}
+use Rattle.connections.proofs.Laws.Turn.Kept.{refused-told}
+use Rattle.connections.proofs.Laws.Turn.Laws.{ServedAs, nobody_served, one_served, accepted, nobody_changes, served-as, told-by, turn-call, turn_number_lem}
 use Rattle.connections.specs.Turn.Picking.{number_of, picked, picked_next}
 use Rattle.connections.specs.Turn.Single.{TurnsOne, turns_at}
-use Rattle.connections.specs.Turn.Whole.{turn-lent}
+use Rattle.connections.proofs.Laws.Turn.Whole.{turn-lent}
 use Rattle.connections.specs.declared.connection.Connection.{Connection}
 use Rattle.connections.specs.declared.round.Served.{Served}
 use Rattle.connections.specs.declared.round.Served.TheVariants.{Nobody, One}

@@ -13,9 +13,9 @@ use Rattle.serial_port.specs.Refusal.Number.{passed_reply}
 use Rattle.connections.specs.Parts.{total, counts_right, part_start, waiting_of}
 use Rattle.connections.specs.Parts.Laws.{part-within}
 use Rattle.connections.specs.Round.{waits_by, next}
-use Rattle.connections.specs.Round.Laws.{Chosen, nobody, one, next-chosen}
+use Rattle.connections.proofs.Laws.Round.Laws.{Chosen, nobody, one, next-chosen}
 use Rattle.connections.specs.Serving.{Serves}
-use Rattle.connections.specs.Turn.Laws.{counts_accepted}
+use Rattle.connections.proofs.Laws.Turn.Laws.{counts_accepted}
 use Rattle.connections.specs.Turn.Number.{number_by, fit_number}
 use Rattle.connections.specs.Turn.Single.{still, ServesNext, serves_next, ServesWaiting, nobody_waits, one_waits, TurnsOne, refused, accepted}
 use Rattle.connections.specs.declared.connection.Connection.{Connection}

@@ -10,9 +10,9 @@ use Rattle.connections.specs.Connections.{closed, flags}
 use Rattle.connections.specs.Survey.{nothing_noted, surveyed_from}
 use Rattle.connections.specs.Survey.Laws.{looked_over}
 use Rattle.connections.specs.Turn.{Asked, claims_few, turn_number, chosen, bytes_of, idle, Turns, tells}
-use Rattle.connections.specs.Turn.Exactly.{row_length, exactly_ten}
-use Rattle.connections.specs.Turn.Laws.{accepted}
-use Rattle.connections.specs.Turn.Making.{refused-made, nobody_made, served-made, told}
+use Rattle.connections.proofs.Laws.Turn.Exactly.{row_length, exactly_ten}
+use Rattle.connections.proofs.Laws.Turn.Laws.{accepted}
+use Rattle.connections.proofs.Laws.Turn.Making.{refused-made, nobody_made, served-made, told}
 use Rattle.connections.specs.Turn.Number.{number_by, number-noted}
 use Rattle.connections.specs.Turn.Picking.{number_of, picked, picked_next}
 use Rattle.connections.specs.Turn.Single as single

@@ -1,0 +1,4 @@
+-- Theorems on Round.
+pub mod Fair
+pub mod Laws
+pub mod Seeking

@@ -1,0 +1,2 @@
+-- Theorems on Single.
+pub mod Rules

@@ -1,0 +1,2 @@
+-- Theorems on Play.
+pub mod Refused
