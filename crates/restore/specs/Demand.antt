@@ -1,16 +1,9 @@
 -- Demand 3: the restore list fulfils the wish, and no byte sequence that does is shorter; the size call tells its bytes and lines before it is written.
-pub mod Calling
 pub mod Exactly
-pub mod Laws
 pub mod Lines
-pub mod Made
 pub mod Pair
 pub mod Played
-pub mod Rules
-pub mod Sized
-pub mod Telling
 pub mod Testing
-pub mod Turns
 use Rattle.std.specs.Prelude.{◌≡◌, true, false, ◌↔◌, List, ℕ, ◌≤◌, ◌<◌, length, take, replicate}
 use Rattle.text.specs.Byte.{is_byte}
 use Rattle.text.specs.Every.{every}

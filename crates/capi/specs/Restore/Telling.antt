@@ -1,7 +1,7 @@
 -- The rules for the code of the restore calls.
 use Rattle.std.specs.Prelude.{◌≡◌, List, [], ◌∷◌, ℕ}
 use Rattle.restore.specs.Demand.{Restores, Sizes}
-use Rattle.restore.specs.Demand.Telling.{size-field, told-field}
+use Rattle.restore.proofs.Laws.Demand.Telling.{size-field, told-field}
 use Rattle.wish.specs.Target.{Wish}
 use Rattle.restore.specs.declared.Restored.{Restored}
 use Rattle.capi.specs.Restore.{counted, restore_answer, restore_tells, size_answer, size_counted, size_tells}

@@ -1,6 +1,6 @@
 -- `restore_write`: nothing is written where the list has no size, or more bytes than its buffer.
 use borrow.Author.Rules.{rules}
-use Rattle.restore.specs.Demand.Calling.{writing_call}
+use Rattle.restore.proofs.Laws.Demand.Calling.{writing_call}
 use Rattle.restore.proofs.restore_write.Statement.{statement}
 use Rattle.restore.proofs.restore_write.Tie as tie
 

@@ -1,6 +1,6 @@
 -- `size_changes`: what measuring answers, told.
 use borrow.Author.Rules.{rules}
-use Rattle.restore.specs.Demand.Calling.{measuring_call}
+use Rattle.restore.proofs.Laws.Demand.Calling.{measuring_call}
 use Rattle.restore.proofs.size_changes.Statement.{statement}
 use Rattle.restore.proofs.size_changes.Tie as tie
 

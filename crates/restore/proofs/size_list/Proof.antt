@@ -1,6 +1,6 @@
 -- `size_list`: nothing is measured where a test fails.
 use borrow.Author.Rules.{rules}
-use Rattle.restore.specs.Demand.Calling.{testing_call}
+use Rattle.restore.proofs.Laws.Demand.Calling.{testing_call}
 use Rattle.restore.proofs.size_list.Statement.{statement}
 use Rattle.restore.proofs.size_list.Tie as tie
 

@@ -1,8 +1,5 @@
 -- What the restore list rests on: the promise of the line layer in a room, as one record.
-pub mod Price
-pub mod Promise
 pub mod Reach
-pub mod Routes
 use Rattle.std.specs.Prelude.{◌≡◌, true, false, cond, List, ℕ, suc, ◌+◌, ◌≤◌, ℤ, pos, length, get_or, set}
 use Rattle.text.specs.Byte.{is_byte}
 use Rattle.text.specs.Cut.{has}

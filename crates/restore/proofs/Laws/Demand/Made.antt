@@ -15,8 +15,8 @@ use Rattle.wish.specs.Listing.Admitting.{told-admits}
 use Rattle.wish.specs.Listing.Sizing.{size-admits}
 use Rattle.restore.specs.Demand.{Fulfils, Listed, Demanded, accepted, unreachable, no_room, size_told, tells, Restores, Sizes}
 use Rattle.restore.specs.Demand.Exactly.{exactly_seven, exactly_eight, size-exactly_seven, size-least}
-use Rattle.restore.specs.Demand.Laws.{told-by, demand_by, measured-by}
-use Rattle.restore.specs.Demand.Sized.{size-numbered}
+use Rattle.restore.proofs.Laws.Demand.Laws.{told-by, demand_by, measured-by}
+use Rattle.restore.proofs.Laws.Demand.Sized.{size-numbered}
 use Rattle.restore.specs.declared.Restored.{Restored}
 
 -- the calls cs play bs, as `Plays` says, on the wish's table, from the fresh port p and the present values on

@@ -18,9 +18,9 @@ use Rattle.serial_port.specs.Play.Laws.{Right, keeps_right, plays}
 use Rattle.wish.specs.Target.{Wish, target}
 use Rattle.wish.specs.Target.Laws.{target_right}
 use Rattle.restore.specs.Demand.Lines.{Lines}
-use Rattle.restore.specs.Demand.Lines.Promise.{promise}
+use Rattle.restore.proofs.Laws.Demand.Lines.Promise.{promise}
 use Rattle.restore.specs.Demand.Lines.Reach.{Stays, keeps_unreachable}
-use Rattle.restore.specs.Demand.Lines.Price.{potential, lowers, price-reached, price-listing}
+use Rattle.restore.proofs.Laws.Demand.Lines.Price.{potential, lowers, price-reached, price-listing}
 use Rattle.wish.specs.Listing.{Admitted, changes, listing, all_reachable, list_number, restore, restore_number, size}
 use Rattle.wish.proofs.Laws.Listing.Beyond.{wish_beyond}
 use Rattle.wish.proofs.Laws.Listing.Counted.{lines_differing}

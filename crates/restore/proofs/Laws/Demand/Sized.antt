@@ -5,7 +5,7 @@ use Rattle.wish.specs.Target.{Wish}
 use Rattle.wish.specs.Listing.{changes, listing, size, size_number}
 use Rattle.wish.specs.Listing.Sizing.{size_number_lem, size-refused, size_told_lem}
 use Rattle.restore.specs.Demand.{Sizes, size_told}
-use Rattle.restore.specs.Demand.Laws.{size-by}
+use Rattle.restore.proofs.Laws.Demand.Laws.{size-by}
 use Rattle.restore.specs.declared.Restored.{Restored}
 
 module _ {w : Wish} {s : Restored} (h : Sizes w s) where

@@ -7,7 +7,7 @@ use Rattle.wish.specs.Listing.{changes, listing, restore_number, size_number}
 use Rattle.wish.specs.Listing.Sizing.{size-refused, size_told_lem}
 use Rattle.wish.specs.Listing.Telling.{listed_told, refused-told}
 use Rattle.restore.specs.Demand.{Restores, Sizes, size_told, tells}
-use Rattle.restore.specs.Demand.Laws.{told-restores, told-sizes}
+use Rattle.restore.proofs.Laws.Demand.Laws.{told-restores, told-sizes}
 use Rattle.restore.specs.declared.Restored.{Restored}
 
 module _ (w : Wish) where

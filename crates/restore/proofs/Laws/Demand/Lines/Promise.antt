@@ -27,7 +27,7 @@ use Rattle.line.specs.Said.Laws.{say-puttable, said-answer}
 use Rattle.line.specs.Said.Naming.{reached, reached_sized}
 use Rattle.line.specs.Said.Price.{Costs, by_whole, by_output, put_costs}
 use Rattle.serial_port.specs.Play.Laws.{Right}
-use Rattle.restore.specs.Demand.Lines.Routes.{IsWord, route_fewest}
+use Rattle.restore.proofs.Laws.Demand.Lines.Routes.{IsWord, route_fewest}
 use Rattle.line.specs.declared.meaning.Meaning.TheVariants.{Put}
 use Rattle.restore.specs.Demand.Lines.{price, Effect, nothing, puts, Said, Lines}
 use Rattle.values.specs.Values.{equal}

@@ -14,8 +14,8 @@ use Rattle.restore_list.specs.Measuring.Walk.{admitted_lists, wish_changes}
 use Rattle.restore_list.specs.declared.module_measuring.Measured.{Measured}
 use Rattle.restore_list.specs.declared.module_measuring.Measured.TheVariants.{Within, Beyond}
 use Rattle.restore.specs.Demand.{Restores, Sizes}
-use Rattle.restore.specs.Demand.Rules.{returns_listed, returns_refused, sizes-listed, sizes-refused}
-use Rattle.restore.specs.Demand.Sized.{bytes-accepted, lines_accepted, size-listed, size_none, size-numbered}
+use Rattle.restore.proofs.Laws.Demand.Rules.{returns_listed, returns_refused, sizes-listed, sizes-refused}
+use Rattle.restore.proofs.Laws.Demand.Sized.{bytes-accepted, lines_accepted, size-listed, size_none, size-numbered}
 use Rattle.restore.specs.declared.Restored.{Restored}
 
 no_change : (cs : List Change) → length cs ≡ 0 → cs ≡ []

@@ -4,7 +4,7 @@ use Rattle.std.proofs.Common.{ap}
 use Rattle.wish.specs.Target.{Wish}
 use Rattle.wish.specs.Listing.{Size, Told, restore, size}
 use Rattle.restore.specs.Demand.{Restores, Sizes, size_told, tells}
-use Rattle.restore.specs.Demand.Laws.{size-by, told-by}
+use Rattle.restore.proofs.Laws.Demand.Laws.{size-by, told-by}
 use Rattle.restore.specs.declared.Restored.{Restored}
 
 -- a field of what it told, or whatever else is made of that: of the size call, and of the writing call

@@ -1,0 +1,2 @@
+-- Theorems that rest on the definitions of specs/.
+pub mod Demand

@@ -1,0 +1,4 @@
+-- Theorems on Lines.
+pub mod Price
+pub mod Promise
+pub mod Routes

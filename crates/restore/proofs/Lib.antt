@@ -1,0 +1,2 @@
+-- Theorems that more than one proof cites.
+pub mod Laws
