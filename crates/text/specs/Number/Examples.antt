@@ -8,8 +8,8 @@ use Rattle.text.specs.Every.{every}
 use Rattle.text.specs.Switch.Examples.{Gives}
 
 -- numbers of one to five digits, and texts that are none
-abbrev numbers-read_cases : List (List ℕ × Number)
-numbers-read_cases =
+abbrev numbers_read_cases : List (List ℕ × Number)
+numbers_read_cases =
     (52 ∷ 51 ∷ 50 ∷ 48 ∷ 48 ∷ [], number.Value 43200) ∷  -- `43200`
     (48 ∷ 48 ∷ 48 ∷ 48 ∷ 49 ∷ [], number.Value 1) ∷  -- `00001`
     (48 ∷ [], number.Value 0) ∷  -- `0`
@@ -18,6 +18,6 @@ numbers-read_cases =
     ([], number.Wrong) ∷  -- nothing
     []
 
-pub numbers-read : Gives (read_number 5) numbers-read_cases
+pub numbers-read : Gives (read_number 5) numbers_read_cases
 unfolding is_digit all_digits every read_on number_of number_form read_number
 numbers-read = refl

@@ -9,8 +9,8 @@ use Rattle.text.specs.declared.word.Word.{Word}
 use Rattle.text.specs.declared.word.Word.TheVariants as word
 
 -- words, and texts that are none
-abbrev words-read_cases : List (List ℕ × Word)
-words-read_cases =
+abbrev words_read_cases : List (List ℕ × Word)
+words_read_cases =
     (56 ∷ 48 ∷ 48 ∷ 48 ∷ 48 ∷ 48 ∷ 48 ∷ 49 ∷ [], word.Value 2147483649) ∷  -- `80000001`
     (70 ∷ 70 ∷ 70 ∷ 70 ∷ 70 ∷ 70 ∷ 70 ∷ 70 ∷ [], word.Value 4294967295) ∷  -- `FFFFFFFF`
     (102 ∷ 48 ∷ 48 ∷ 48 ∷ 48 ∷ 48 ∷ 48 ∷ 48 ∷ [], word.Wrong) ∷  -- `f0000000`
@@ -19,7 +19,7 @@ words-read_cases =
     (48 ∷ [], word.Wrong) ∷  -- `0`
     []
 
-pub words-read : Gives read_hex words-read_cases
+pub words-read : Gives read_hex words_read_cases
 unfolding is_digit every is_hex_digit hex_value hex_on read_hex
 words-read = refl
 

@@ -1,0 +1,5 @@
+-- `put_number`: the call is on n / 10, which is less than n.
+use Rattle.text.proofs.number.+put_number.Given as goal
+
+abbrev pub decreases-put_number : goal.decreases-put_number
+decreases-put_number l = l.n
