@@ -12,8 +12,6 @@ law, where it changes specs/. Asked is:
   specs/ is changed, the laws named are among those refused;
 - each is refused at its promise: what the function ensures, or the invariant of its loop. A refusal at what a callee requires, at a side fact (an index, a sum, the bounds of a
   part) or because the proof file no longer fits the code shows less than the edit says. A program's `main` has no promise: it is refused at what a callee requires;
-- a function over a lent row of structs may be proved by a walk of its code (`denote.Triple.Walked`). Its wrong program is refused within that walk, at the step that the code no longer takes. This shows that
-  the proof sees the change, and less than a refusal at the promise: it does not rule out another walk of the wrong program;
 - every function that other crates or C can call has two wrong programs of its own;
 - docs/WRONG-PROGRAMS.md names each wrong program, and no other.
 
@@ -37,10 +35,10 @@ asked = [word for word in sys.argv[1:] if word != "--where"]
 edits = [edit for edit in sorted(root.glob("crates/*/must-fail/*.edit")) if not asked or edit.parent.parent.name in asked]
 faults = []
 
-PROMISE, INVARIANT, LAW, WALK = "the promise", "the invariant", "the law", "the walk"
+PROMISE, INVARIANT, LAW = "the promise", "the invariant", "the law"
 REQUIRES, SIDE, UNFIT, NOTHING = "a callee's requires", "a side fact", "an unfit proof file", "nothing"
 # Of several places where a function is refused the first of these counts.
-PLACES = [PROMISE, INVARIANT, LAW, WALK, REQUIRES, SIDE, UNFIT, NOTHING]
+PLACES = [PROMISE, INVARIANT, LAW, REQUIRES, SIDE, UNFIT, NOTHING]
 
 
 def wrong_programs(edit):
@@ -197,8 +195,6 @@ def place_of(goal):
 def error_place(crate, file, line, column, name, words):
     """Where an error in a proof file of a function refuses it."""
     text = (root / "crates" / crate / file).read_text() if (root / "crates" / crate / file).exists() else ""
-    if "use denote.Triple.Walked." in text:
-        return WALK
     if "no proof of `" not in words.partition("\n")[0] and re.search(r"has no field|is not in scope|has no `|Lts\.Closed|that can be named from here", words):
         return UNFIT
     if file.endswith("Answers.antt"):
@@ -297,8 +293,8 @@ for edit in edits:
     for name, what in wrong.items():
         place = places.get(what, NOTHING)
         found[crate.name, name] = place
-        own[crate.name, what] += place in (PROMISE, INVARIANT, WALK)
-        if place not in (PROMISE, INVARIANT, LAW, WALK) and (what, place) != ("main", REQUIRES):
+        own[crate.name, what] += place in (PROMISE, INVARIANT)
+        if place not in (PROMISE, INVARIANT, LAW) and (what, place) != ("main", REQUIRES):
             faults.append(f"{label}: {name} is refused at {place}")
         if "--where" in sys.argv:
             print(f"{crate.name}/{edit.stem}: {name}, of {what}: {place}")
