@@ -103,7 +103,7 @@ class Lane:
         shutil.copytree(root / "crates", room / "crates", ignore=without, copy_function=copied)
         shutil.copy2(root / "crates.txt", room)
 
-    def check(self, crate, texts, *flags):
+    def check(self, crate, texts):
         """What `rt check` says of the crate with these texts in place of its own."""
         folder, kept = self.room / "crates" / crate, "out/incremental"
         shutil.rmtree(folder / kept, ignore_errors=True)
@@ -113,7 +113,7 @@ class Lane:
         try:
             for file, text in texts.items():
                 (folder / file).write_text(text)
-            return subprocess.run(["rt", "check", "--jobs", "1", *flags], cwd=folder, stdout=subprocess.PIPE, stderr=subprocess.STDOUT, stdin=subprocess.DEVNULL, text=True, errors="replace").stdout
+            return subprocess.run(["rt", "check", "--jobs", "1"], cwd=folder, stdout=subprocess.PIPE, stderr=subprocess.STDOUT, stdin=subprocess.DEVNULL, text=True, errors="replace").stdout
         finally:
             for file, text in own.items():
                 (folder / file).write_text(text)
@@ -148,23 +148,20 @@ def kept(file, total, make):
 
 def goals(crate):
     """The goals of the functions whose proof file gives the answers in order (`tie.spec`): by the file, the names of what it is given, None for an invariant or a measure."""
-    given = {str(file.relative_to(root / "crates" / crate)): re.search(r"\btie\.spec\b", file.read_text()) for file in (root / "crates" / crate / "proofs").rglob("Proof.antt")}
-    if not any(given.values()):
+    if not any(re.search(r"\btie\.spec\b", file.read_text()) for file in (root / "crates" / crate / "proofs").rglob("Proof.antt")):
         return {}
 
     def make():
         lane = lanes.get()
         try:
             with tempfile.TemporaryDirectory() as folder:
-                lane.check(crate, {}, "--generated", folder)
-                texts = {file: pathlib.Path(folder) / f"Rattle-{crate}-proofs" / pathlib.Path(file).relative_to("proofs").with_name("Tie.antt") for file in given if given[file]}
-                spec = {file: re.search(r"  pub spec :\n(.*?)\n {6}Lts\.Closed", text.read_text(), re.S) for file, text in texts.items() if text.exists()}
-                return json.dumps({file: [re.match(r"Need-(\S+)", kind) and re.match(r"Need-(\S+)", kind)[1] for kind in re.findall(r"^ {6}\(\S+ : (.*?)\) →", words[1], re.M | re.S)]
-                                   for file, words in spec.items() if words})
+                subprocess.run(["rt", "names", folder], cwd=lane.room / "crates" / crate, stdout=subprocess.DEVNULL, check=True)
+                return (pathlib.Path(folder) / "names.json").read_text()
         finally:
             lanes.put(lane)
 
-    return json.loads(kept(root / "target/must-fail" / crate / "goals", sum_of(crate), make))
+    told = json.loads(kept(root / "target/must-fail" / crate / "goals", sum_of(crate), make))
+    return {f"proofs/{'/'.join(name.split('.')[1:-1])}/Proof.antt": [None, None] * len(it["loops"]) + [new for _, new in it["needs"]] for name, it in told.items() if name.endswith(".Lts")}
 
 
 def given_at(text, line, column):
