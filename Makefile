@@ -4,7 +4,7 @@
 #   make uninstall              with the same words as the install
 #   make dist                   target/egrivundo-VERSION-x86_64-linux.tar.gz, which needs no kit
 #   make check                  the tests of what is built here
-# BUILD names another folder than target for all that is made here. The proved archive is made by `rt staticlib capi`, once and after a change of the crates; EGRIVUNDO_ARCHIVE names another, by its whole path.
+# BUILD names another folder than target for all that is made here. The proved archive is made by host/archive.sh, once and after a change of the crates; EGRIVUNDO_ARCHIVE names another, by its whole path.
 
 BUILD = target
 PREFIX = /usr/local
@@ -36,9 +36,9 @@ SOURCE_DATE_EPOCH ?= $(shell git log -1 --format=%ct 2>/dev/null || echo 0)
 all: $(out)/$(static) $(out)/$(shared)
 
 target/staticlib/libcapi.a: FORCE
-	@if [ ! -f $@ ] || [ -n "$$(find crates crates.txt -type f -newer $@ -print -quit)" ]; then \
+	@if [ ! -f $@ ] || [ -n "$$(find crates crates.txt -name out -prune -o -type f -newer $@ -print -quit)" ]; then \
 	    command -v rt >/dev/null || { echo "rt is not installed; it makes the archive" >&2; exit 1; }; \
-	    rt staticlib capi; \
+	    host/archive.sh; \
 	fi
 
 $(out)/$(static): $(archive)

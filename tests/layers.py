@@ -17,11 +17,11 @@ OPEN = [
     ("*", "panel/specs/Worked.antt", "the worked changes compute"),
     ("text Every.every", "catalogue/specs/Catalogue/*", "a test computed over the constant catalogue"),
     ("text Every.pairs", "catalogue/specs/Catalogue/*", "a test computed over the constant catalogue"),
-    ("syntax Shape.lineLimit", "*", "a limit: 64 bytes of a line"),
-    ("serial_port Refusal.replyLimit", "*", "a limit: 64 bytes of a reply buffer"),
-    ("room Table.recordLimit", "*", "a limit: 64 records of a table"),
-    ("catalogue Catalogue.rowLimit", "*", "a limit: 160 rows of a module"),
-    ("values Values.valueLimit", "*", "a limit: 10,240 values of a table"),
+    ("syntax Shape.line_limit", "*", "a limit: 64 bytes of a line"),
+    ("serial_port Refusal.reply_limit", "*", "a limit: 64 bytes of a reply buffer"),
+    ("room Table.record_limit", "*", "a limit: 64 records of a table"),
+    ("catalogue Catalogue.row_limit", "*", "a limit: 160 rows of a module"),
+    ("values Values.value_limit", "*", "a limit: 10,240 values of a table"),
 ]
 
 root = pathlib.Path(sys.argv[1] if len(sys.argv) > 1 else pathlib.Path(__file__).parent.parent).resolve()
@@ -31,7 +31,7 @@ crates = root / "crates"
 def imported(text):
     """The definitions of crates that a file names: by its own name for each, crate and path. An alias stands for its module."""
     names = {}
-    for crate, module, alias, listed in re.findall(r"^use Rattle·(\w+?)(?:·specs\.specs|\.specs)\.([\w.·-]+?)(?: as (\w+)|\.\{([^}]*)\})", text, re.M):
+    for crate, module, alias, listed in re.findall(r"^(?:pub |unfoldable )*use Rattle\.(\w+)\.specs\.([\w.'-]+?)(?: as (\w+)|\.\{([^}]*)\})", text, re.M):
         if alias:
             names[alias] = (crate, module)
         for name in listed.replace("\n", " ").split(","):
@@ -46,7 +46,7 @@ def opened(text):
 
 
 places, faults, used = 0, [], set()
-for file in sorted(crates.glob("**/*.antt")):
+for file in sorted([*crates.glob("*/specs/**/*.antt"), *crates.glob("*/proofs/**/*.antt")]):
     path = str(file.relative_to(crates))
     text = file.read_text()
     names = imported(text)

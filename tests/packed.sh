@@ -10,7 +10,7 @@ fail() {
     exit 1
 }
 export EGRIVUNDO_ARCHIVE=${EGRIVUNDO_ARCHIVE:-$PWD/target/staticlib/libcapi.a}
-[[ -f $EGRIVUNDO_ARCHIVE ]] || fail "there is no archive: run 'rt staticlib capi'"
+[[ -f $EGRIVUNDO_ARCHIVE ]] || fail "there is no archive: run host/archive.sh"
 version=$(sed -n 's/^#define EGRIVUNDO_VERSION "\(.*\)"/\1/p' host/include/egrivundo.h)
 name=egrivundo-$version
 tarball=$name-x86_64-linux.tar.gz

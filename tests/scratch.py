@@ -51,10 +51,19 @@ def closed(tokens, at):
 
 def tokens_of(text):
     """The tokens of a file, without comments and contracts."""
-    tokens = TOKEN.findall(re.sub(r"//.*|^ghost .*", "", text, flags=re.M))
+    tokens = TOKEN.findall(re.sub(r"//.*|^ghost .*|^\s*#!?\[.*\]$", "", text, flags=re.M))
     for at in reversed([place for place, token in enumerate(tokens) if token in ("requires", "ensures")]):
-        del tokens[at : closed(tokens, at + 1) + 1]
+        del tokens[at : closed(tokens, tokens.index("{", at)) + 1]
     return tokens
+
+
+def paths(tokens):
+    """The paths that a `use` names, of which one may end in several names in braces."""
+    if "{" not in tokens:
+        return [[token for token in tokens if token != "::"]]
+    at = tokens.index("{")
+    head, listed = tokens[:at], " ".join(tokens[at + 1 : closed(tokens, at)]).split(" , ")
+    return [path for words in listed for path in paths([*head, *words.split()])]
 
 
 class Source:
@@ -72,10 +81,10 @@ class Source:
         while at < len(tokens):
             if tokens[at] == "use":
                 end = tokens.index(";", at)
-                path = [token for token in tokens[at + 1 : end] if token != "::"]
-                if not all(token.isidentifier() for token in path) or "as" in path:
-                    sys.exit(f"FAILED: {shown(scope)}: a `use` of this form is not followed")
-                self.uses[scope, path[-1]] = [scope[0], *path[1:]] if path[0] == "crate" else path
+                for path in paths(tokens[at + 1 : end]):
+                    if not all(token.isidentifier() for token in path) or {"as", "self", "super"} & set(path):
+                        sys.exit(f"FAILED: {shown(scope)}: a `use` of this form is not followed")
+                    self.uses[scope, path[-1]] = [scope[0], *path[1:]] if path[0] == "crate" else path
                 at = end
             elif tokens[at] in ITEMS:
                 end = at

@@ -4,7 +4,7 @@ set -euo pipefail
 cd "$(dirname "${BASH_SOURCE[0]}")"
 archive=${EGRIVUNDO_ARCHIVE:-../../target/staticlib/libcapi.a}
 if [[ ! -f $archive ]]; then
-    echo "The archive is missing: run 'rt staticlib capi' at the repository's root." >&2
+    echo "The archive is missing: run host/archive.sh at the repository's root." >&2
     exit 1
 fi
 out=$(mktemp -d)

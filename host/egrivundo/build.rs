@@ -14,7 +14,7 @@ fn main() {
     };
     if !archive.is_file() {
         eprintln!("The archive is missing: {}", archive.display());
-        eprintln!("Run `rt staticlib capi` at the repository's root,");
+        eprintln!("Run `host/archive.sh` at the repository's root,");
         eprintln!("or set {VARIABLE} to the whole path of the archive.");
         process::exit(1);
     }

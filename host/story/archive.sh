@@ -6,31 +6,33 @@ cd "$(dirname "${BASH_SOURCE[0]}")/../.."
 archive=target/staticlib/libcapi.a
 log=target/log/archive
 
-# Whether a file is missing, or one of the sources is newer.
+# Whether a file is missing, or one of the sources is newer. What the checker keeps in a crate's out/ is no source.
 newer() { # FILE SOURCE..
-    [[ ! -f $1 || -n $(find "${@:2}" -type f -newer "$1" -print -quit) ]]
+    [[ ! -f $1 || -n $(find "${@:2}" -name out -prune -o -type f -newer "$1" -print -quit) ]]
 }
 newer "$archive" crates crates.txt || exit 0
 command -v rt >/dev/null || { echo "rt is not installed: the Rattle kit has it, and it proves the core" >&2; exit 1; }
 
-# The crates in order, and those that each is proved over.
-names=()
-declare -A over=() needed=([capi]=1) stale=()
+# The crates, and those that each is proved over.
+declare -A over=() stale=() met=()
 while IFS=: read -r name below; do
-    [[ $name == \#* || -z $name ]] && continue
-    names+=("$name")
-    over[$name]=$below
+    name=${name%% *}
+    [[ $name == \#* || -z $name ]] || over[$name]=$below
 done <crates.txt
 
-# Needed is what the archive is proved over, and to be proved what has changed, or stands over it.
-for ((n = ${#names[@]} - 1; n >= 0; n--)); do
-    [[ -n ${needed[${names[n]}]:-} ]] || continue
-    for below in ${over[${names[n]}]}; do needed[$below]=1; done
-done
-stamp() { if [[ $1 == capi ]]; then echo "$archive"; else echo "target/stamp/$1"; fi; }
+# Needed is what the archive is proved over, in the order in which it is proved; and to be proved what has changed, or stands over it.
+names=()
+visit() { # NAME
+    local below
+    met[$1]=1
+    for below in ${over[$1]}; do
+        if [[ -v over[$below] && -z ${met[$below]:-} ]]; then visit "$below"; fi
+    done
+    names+=("$1")
+}
+visit capi
 for name in "${names[@]}"; do
-    [[ -n ${needed[$name]:-} ]] || continue
-    if newer "$(stamp "$name")" "crates/$name"; then stale[$name]=1; fi
+    if newer "crates/$name/out/rlib/stamp" "crates/$name"; then stale[$name]=1; fi
     for below in ${over[$name]}; do
         if [[ -n ${stale[$below]:-} ]]; then stale[$name]=1; fi
     done
@@ -39,36 +41,33 @@ done
 stale[capi]=1
 count=${#stale[@]}
 
-# Some fifteen seconds for each on two processors.
-minutes=$(((count * 15 + 59) / 60))
+# Some half a minute for each on four processors.
+minutes=$(((count * 30 + 59) / 60))
 case $minutes in
     1) time='about a minute' ;;
     *) time="some $minutes minutes" ;;
 esac
-echo "Proving $count of ${#names[@]} crates, once; $time. The checker's words go to target/log." >&2
-
-# The checker's temporary files, thousands for the upper crates, are kept in memory where 2 GiB of it can be had and programs may be run from there.
-if [[ -z ${TMPDIR:-} ]] && findmnt -n -t tmpfs -o OPTIONS /dev/shm | grep -qvw noexec && (($(stat -f -c '%a * %S' /dev/shm) > 2 << 30)); then
-    export TMPDIR=/dev/shm
-fi
+echo "Proving $count of ${#over[@]} crates, once; $time. The checker's words go to target/log." >&2
 
 # One line that is drawn anew, each second, on a terminal; else a line for each crate.
-proved=0 last='' failed=''
+proved=0 last='' failed='' now=''
 draw() { if [[ -t 2 ]]; then printf '\r\033[K%s' "$proved/$count${last:+ $last}, $SECONDS s" >&2; fi; }
 heard() { # LINE
+    local name
     echo "$1" >>"$log"
-    local same
     case $1 in
-        'rt: '*' proved (unchanged'*)
-            # Its files are new, and say what they said.
-            same=${1#rt: }
-            if [[ -n ${stale[${same%% *}]:-} ]]; then count=$((count - 1)); fi
+        'rt: chose --jobs '*' for '*)
+            # Of a crate whose files are new and say what they said, nothing is told: it is passed over.
+            now=${1##* }
+            for name in "${names[@]}"; do
+                if [[ $name == "$now" ]]; then break; fi
+                if [[ -n ${stale[$name]:-} ]]; then count=$((count - 1)); fi
+                stale[$name]=''
+            done
             return
             ;;
-        'rt: '*' proved ('*) last=${1#rt: } last=${last%% *} ;;
-        "rt: $archive has "*) last=capi ;;
-        'rt: '*' NOT PROVED: its dependency '*) return ;;
-        'rt: '*' NOT PROVED'*) failed+=" ${1#rt: }" failed=${failed%% NOT PROVED*}; return ;;
+        'logic=proved'*) stale[$now]='' last=$now ;;
+        'rt: the library '*' did not build'* | 'logic=not-proved'*) failed=$now; return ;;
         *) return ;;
     esac
     proved=$((proved + 1))
@@ -87,10 +86,10 @@ while true; do
     else
         break
     fi
-done < <(rt staticlib capi 2>&1 || echo "rt: status $?")
+done < <(host/archive.sh 2>&1 || echo "rt: status $?")
 if [[ -t 2 ]]; then echo >&2; fi
 
 if [[ $(tail -n 1 "$log") == 'rt: status '* || ! -f $archive ]]; then
-    echo "The core is not proved${failed:+; refused:$failed}. What the checker said is in $log." >&2
+    echo "The core is not proved${failed:+; refused: $failed}. What the checker said is in $log." >&2
     exit 1
 fi

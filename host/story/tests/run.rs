@@ -13,10 +13,10 @@ const ALL: [&str; 3] = ["rt", "cargo", "cc"];
 #[test]
 fn the_first_run_and_the_next() {
     let copy = Copy::new("first", &ALL);
-    let (status, text, errors) = copy.run(&[], &[("TMPDIR", "/tmp")]);
+    let (status, text, errors) = copy.run(&[], &[]);
     assert_eq!(status, Some(0), "{errors}");
     let expected =
-        "Proving 4 of 5 crates, once; about a minute. The checker's words go to target/log.\n\
+        "Proving 4 of 5 crates, once; some 2 minutes. The checker's words go to target/log.\n\
                     1/4 low\n2/4 middle\n3/4 upper\n4/4 capi\n\
                     Building the program that plays the question; some seconds.\n";
     assert_eq!(errors, expected);
@@ -24,7 +24,7 @@ fn the_first_run_and_the_next() {
     assert!(copy.log().contains("fn upper::x: proved\n"));
     assert!(copy
         .log()
-        .starts_with("arguments: staticlib capi, temporary files: /tmp\n"));
+        .starts_with("arguments: lib, in the folder capi\n"));
     // The program is given the files of the example.
     let files: Vec<&str> = text.lines().rev().take(2).collect();
     assert!(files[1].ends_with("/examples/viewing-room.room"), "{text}");
@@ -36,13 +36,13 @@ fn the_first_run_and_the_next() {
     copy.touch("crates/middle/src/lib.rt");
     let (_, _, errors) = copy.run(&[], &[("CHANGED", "middle upper")]);
     let expected =
-        "Proving 3 of 5 crates, once; about a minute. The checker's words go to target/log.\n\
+        "Proving 3 of 5 crates, once; some 2 minutes. The checker's words go to target/log.\n\
                     1/3 middle\n2/3 upper\n3/3 capi\n";
     assert_eq!(errors, expected);
 }
 
 /// A file that is newer and says the same is not proved again, which only `rt`
-/// can know.
+/// can know. It tells nothing of such a crate.
 #[test]
 fn newer_files_that_say_the_same() {
     let copy = Copy::new("same", &ALL);
@@ -67,32 +67,8 @@ fn more_crates_take_longer() {
     crates += "capi: c0 c1 c2 c3 c4 c5 c6 c7 c8 c9\n";
     copy.folder.file("crates.txt", crates);
     let (_, _, errors) = copy.run(&[], &[]);
-    let first = "Proving 14 of 14 crates, once; some 4 minutes. ";
+    let first = "Proving 14 of 14 crates, once; some 7 minutes. ";
     assert!(errors.starts_with(first), "{errors}");
-}
-
-/// Temporary files are in memory by the same test as in the gate.
-#[test]
-fn temporary_files_in_memory() {
-    let test = |path: &str| {
-        let text = fs::read_to_string(root().join(path)).unwrap();
-        let lines = text
-            .lines()
-            .map(str::trim)
-            .skip_while(|line| !line.contains("findmnt"));
-        lines.take(2).map(String::from).collect::<Vec<_>>()
-    };
-    let ours = test("host/story/archive.sh");
-    assert_eq!(ours.len(), 2);
-    assert_eq!(ours, test(".ci/run"));
-    let copy = Copy::new("memory", &ALL);
-    copy.run(&[], &[]);
-    let log = copy.log();
-    let first = log.lines().next().unwrap();
-    assert!(
-        first.ends_with(": /dev/shm") || first.ends_with(": none"),
-        "{first}"
-    );
 }
 
 #[test]
@@ -103,7 +79,7 @@ fn what_is_refused() {
     let last =
         "The core is not proved; refused: middle. What the checker said is in target/log/archive.";
     assert_eq!(errors.lines().last(), Some(last));
-    assert!(copy.log().contains("rt: middle NOT PROVED"));
+    assert!(copy.log().contains("fn middle::x: not proved\n"));
 }
 
 #[test]
