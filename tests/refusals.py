@@ -217,7 +217,7 @@ def refusals(edit, log):
     for file, line, column, name, words in re.findall(r"^(?:\./)?(\S+?):(\d+):(\d+): error: `?([^`\s:]*)`?:?(.*(?:\n  .*)*)", log, re.M):
         if re.search(r"^.* that depends? on .* not checked", words):
             continue
-        if file.startswith("specs/"):
+        if file.startswith(("specs/", "proofs/Laws/")):
             found(name, LAW)
         elif file.startswith("proofs/"):
             found(pathlib.Path(file).parent.name.removeprefix("+"), error_place(crate, file, line, column, name, words))

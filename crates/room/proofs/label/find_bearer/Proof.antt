@@ -59,7 +59,7 @@ find_bearer_spec =
       | else-size-lt32-via-else-size-lt32 w ↦ search (seeking, walking, rules)
     ])  -- records-preserved
     (λ c. search (seeking, walking, rules))  -- returns-then-table-place
-    (λ c. elim c.else-size-lt32.branch [
-      | else-size-lt32-via-then-size-lt32+else-table-label-ne0 w ↦ search (seeking, walking, rules)
-      | else-size-lt32-via-else-size-lt32 w ↦ search (seeking, walking, rules)
+    (λ d. elim d.else-size-lt32.branch [
+      | else-size-lt32-via-then-size-lt32+else-table-label-ne0 v ↦ search (seeking, walking, rules)
+      | else-size-lt32-via-else-size-lt32 v ↦ search (seeking, walking, rules)
     ]))  -- returns-in-Only
