@@ -31,7 +31,7 @@ crates = root / "crates"
 def imported(text):
     """The definitions of crates that a file names: by its own name for each, crate and path. An alias stands for its module."""
     names = {}
-    for crate, module, alias, listed in re.findall(r"^(?:pub |unfoldable )*use Rattle\.(\w+)\.specs\.([\w.'-]+?)(?: as (\w+)|\.\{([^}]*)\})", text, re.M):
+    for crate, module, alias, listed in re.findall(r"^(?:pub |unfoldable )*use Rattle\.(\w+)\.(?:specs|proofs\.Laws)\.([\w.'-]+?)(?: as (\w+)|\.\{([^}]*)\})", text, re.M):
         if alias:
             names[alias] = (crate, module)
         for name in listed.replace("\n", " ").split(","):
