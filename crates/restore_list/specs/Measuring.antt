@@ -14,8 +14,8 @@ use Rattle.values.specs.Parameters.{parameters, parameters_of}
 use Rattle.room.specs.Table.{modules, sound}
 use Rattle.room.specs.declared.table.Module.{Module}
 use Rattle.wish.specs.Listing.{Change, all_reachable, changes_of, list_number, listing}
-use Rattle.wish.proofs.Laws.Listing.Settable.{all_settable}
-use Rattle.wish.proofs.Laws.Listing.Wanted.{wanted_changes}
+use Rattle.wish.specs.Listing.Settable.{all_settable}
+use Rattle.wish.specs.Listing.Wanted.{wanted_changes}
 use Rattle.restore_list.specs.declared.module_measuring.Measured.{Measured}
 use Rattle.restore_list.specs.declared.module_measuring.Measured.TheVariants.{Within, Beyond}
 

@@ -2,8 +2,10 @@
 pub mod Admitting
 pub mod Laws
 pub mod Numbers
+pub mod Settable
 pub mod Sizing
 pub mod Telling
+pub mod Wanted
 use Rattle.std.specs.Prelude.{Bool, true, false, cond, ◌&&◌, ◌≡◌, List, [], ◌∷◌, ◌++◌, ℕ, zero, suc, leb, ℤ, length}
 use Rattle.std.proofs.lemmas.List.Edits.{sets}
 use Rattle.room.specs.Refusal.{first_refusal}

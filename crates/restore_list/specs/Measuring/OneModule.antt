@@ -6,7 +6,8 @@ use Rattle.room.specs.Label.{bearer, label}
 use Rattle.room.specs.declared.table.Module.{Module}
 use Rattle.wish.specs.Listing.{Change, all_reachable, borne_once, listing}
 use Rattle.wish.specs.Listing.Laws.{listing_none, no_change, reachable-none}
-use Rattle.wish.proofs.Laws.Listing.Settable.{all_settable, module_reached, module_shared, read_only_beyond}
+use Rattle.wish.specs.Listing.Settable.{all_settable}
+use Rattle.wish.proofs.Laws.Listing.Settable.{module_reached, module_shared, read_only_beyond}
 use Rattle.restore_list.specs.Measuring.{Few, MeasuresModule, Settles, measured, measured_if, module_changes, row_changes, values_of}
 use Rattle.restore_list.specs.Measuring.Told.{few_beyond, few_within, flag_beyond, flag_within, measures_by}
 use Rattle.restore_list.specs.declared.module_measuring.Measured.{Measured}

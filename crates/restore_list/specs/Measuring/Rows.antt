@@ -18,7 +18,8 @@ use Rattle.spelling.specs.Say.{say}
 use Rattle.spelling.specs.Say.Length.{say-short}
 use Rattle.wish.specs.Listing.{Change, listing}
 use Rattle.wish.specs.Listing.Laws.{listing-append, listing_none, one_line}
-use Rattle.wish.proofs.Laws.Listing.Settable.{all_settable, settable_append, settable_none, settable_one}
+use Rattle.wish.specs.Listing.Settable.{all_settable}
+use Rattle.wish.proofs.Laws.Listing.Settable.{settable_append, settable_none, settable_one}
 use Rattle.restore_list.specs.Measuring.{Settles, measured_if, row_changes}
 use Rattle.restore_list.specs.Measuring.Listed.{whole-said}
 use Rattle.values.specs.Values.Compared.{bits-differ, bits-equal}

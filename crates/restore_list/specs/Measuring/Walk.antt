@@ -17,7 +17,8 @@ use Rattle.room.specs.declared.table.Module.{Module}
 use Rattle.wish.specs.Target.{Wish}
 use Rattle.wish.specs.Target.Wanting.{selection_long, wanted_long}
 use Rattle.wish.specs.Listing.{Admitted, Change, changes}
-use Rattle.wish.proofs.Laws.Listing.Wanted.{wanted_all, wanted_append, wanted_module, wanted_none, wanted_changes}
+use Rattle.wish.specs.Listing.Wanted.{wanted_changes}
+use Rattle.wish.proofs.Laws.Listing.Wanted.{wanted_all, wanted_append, wanted_module, wanted_none}
 use Rattle.restore_list.specs.Measuring.{Matching, Standing, all_changes, module_changes, row_changes, values_of}
 use Rattle.values.specs.Values.Laws.{values_many}
 

@@ -12,11 +12,7 @@ use Rattle.values.specs.Parameters.Owned.{Owned, owned}
 use Rattle.values.specs.Values.{equal}
 use Rattle.values.specs.declared.parameter.Parameter.{Parameter}
 use Rattle.wish.specs.Listing.{Change, all_reachable, borne_once, changes_of, reachable}
-
--- no change is of a read-only row
-unfoldable pub all_settable : List Change → Bool
-all_settable [] = true
-all_settable (c ∷ cs) = c.parameter.row.settable && all_settable cs
+use Rattle.wish.specs.Listing.Settable.{all_settable}
 
 pub settable_none : all_settable [] ≡ true
 unfolding all_settable

@@ -12,10 +12,7 @@ use Rattle.values.specs.declared.parameter.Parameter.{Parameter}
 use Rattle.wish.specs.Target.{Wish, chosen, target, target_of}
 use Rattle.wish.specs.Target.Choice.{own-choice}
 use Rattle.wish.specs.Listing.{Change, changes, changes_of}
-
--- the wanted changes of some parameters
-abbrev pub wanted_changes : (selection : List ℕ) → List Parameter → (present wanted : List ℤ) → List Change
-wanted_changes selection ps vs ws = changes_of ps vs (target_of selection ps vs ws)
+use Rattle.wish.specs.Listing.Wanted.{wanted_changes}
 
 pub wanted_all : (w : Wish) → changes w ≡ wanted_changes w.selection (parameters w.room.table) w.present w.wanted
 unfolding changes target
