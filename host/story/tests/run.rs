@@ -13,7 +13,7 @@ const ALL: [&str; 3] = ["rt", "cargo", "cc"];
 #[test]
 fn the_first_run_and_the_next() {
     let copy = Copy::new("first", &ALL);
-    let (status, text, errors) = copy.run(&[], &[]);
+    let (status, text, errors) = copy.run(&[], &[("TMPDIR", "/tmp")]);
     assert_eq!(status, Some(0), "{errors}");
     let expected =
         "Proving 4 of 5 crates, once; some 2 minutes. The checker's words go to target/log.\n\
@@ -24,7 +24,7 @@ fn the_first_run_and_the_next() {
     assert!(copy.log().contains("fn upper::x: proved\n"));
     assert!(copy
         .log()
-        .starts_with("arguments: lib, in the folder capi\n"));
+        .starts_with("arguments: lib, in the folder capi, temporary files: /tmp\n"));
     // The program is given the files of the example.
     let files: Vec<&str> = text.lines().rev().take(2).collect();
     assert!(files[1].ends_with("/examples/viewing-room.room"), "{text}");
@@ -69,6 +69,20 @@ fn more_crates_take_longer() {
     let (_, _, errors) = copy.run(&[], &[]);
     let first = "Proving 14 of 14 crates, once; some 7 minutes. ";
     assert!(errors.starts_with(first), "{errors}");
+}
+
+/// Temporary files are where the caller says, by the same rule as in the gate.
+#[test]
+fn temporary_files_where_the_caller_says() {
+    for path in ["host/story/archive.sh", "host/archive.sh", ".ci/run"] {
+        let text = fs::read_to_string(root().join(path)).unwrap();
+        assert!(!text.contains("TMPDIR"), "{path}");
+    }
+    let copy = Copy::new("temporary", &ALL);
+    copy.run(&[], &[]);
+    let log = copy.log();
+    let first = log.lines().next().unwrap();
+    assert!(first.ends_with(": none"), "{first}");
 }
 
 #[test]

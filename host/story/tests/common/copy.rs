@@ -11,7 +11,7 @@ use super::{root, told, Folder, Told};
 
 /// Proves what `CHANGED` names, and fails at what `WRONG` names.
 const RT: &str = r#"#!/usr/bin/env bash
-echo "arguments: $*, in the folder ${PWD##*/}"
+echo "arguments: $*, in the folder ${PWD##*/}, temporary files: ${TMPDIR:-none}"
 for name in low middle upper capi; do
     if [[ $name == "${WRONG:-}" ]]; then
         echo "rt: chose --jobs 2 for $name"
