@@ -21,7 +21,6 @@ OPEN = [
     ("serial_port Refusal.reply_limit", "*", "a limit: 64 bytes of a reply buffer"),
     ("room Table.record_limit", "*", "a limit: 64 records of a table"),
     ("catalogue Catalogue.row_limit", "*", "a limit: 160 rows of a module"),
-    ("values Values.value_limit", "*", "a limit: 10,240 values of a table"),
 ]
 
 root = pathlib.Path(sys.argv[1] if len(sys.argv) > 1 else pathlib.Path(__file__).parent.parent).resolve()

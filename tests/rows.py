@@ -13,7 +13,6 @@ import room
 
 HEADER, RULES = (library.ROOT / path for path in ("host/include/egrivundo.h", "docs/RULES.md"))
 SOURCE = library.ROOT / "crates/catalogue/src"
-WHAT = ["level", "switch", "number"]
 SIZES = [(1, 1), (1, 32), (2, 3), (8, 4), (32, 1), (32, 32)]
 ALL = [(kind, 0, 0) for kind in range(1, 7)] + [(7, *size) for size in SIZES]
 
@@ -21,9 +20,9 @@ ALL = [(kind, 0, 0) for kind in range(1, 7)] + [(7, *size) for size in SIZES]
 def catalogue():
     """The constant table: by kind the rows, each of indices, what, low, high, step and settable."""
     rows = {kind: [] for kind in range(1, 7)}
-    for line in re.findall(r"^    \[(-?\d+(?:, -?\d+){7})\],$", (SOURCE / "table.rt").read_text(), re.M):
-        kind, first, second, what, low, high, step, settable = map(int, line.split(","))
-        rows[kind].append((str(first) if second < 0 else f"{first}>{second}", WHAT[what], low, high, step, bool(settable)))
+    entry = r"^    entry!\((\d), \w+\(([\d, ]+)\), (\w+), (\S+), (\S+), (\d+), (\w+)\),$"
+    for kind, indices, what, low, high, step, settable in re.findall(entry, (SOURCE / "table.rt").read_text(), re.M):
+        rows[int(kind)].append((indices.replace(", ", ">"), what.lower(), int(low), int(high), int(step), settable == "true"))
     return rows
 
 

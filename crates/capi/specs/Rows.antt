@@ -1,6 +1,6 @@
 -- What C is told of a table's values, so that it need not know the catalogue: how many they are, the start values, and each row with its place.
 pub mod Telling
-use Rattle.std.specs.Prelude.{cond, List, [], ◌∷◌, ℕ, eqb, ℤ, pos, negsuc, length}
+use Rattle.std.specs.Prelude.{cond, List, [], ◌∷◌, ℕ, eqb, ℤ, pos, negsuc, length, Option, Some, None}
 use Rattle.catalogue.specs.declared.row.Indices.{Indices}
 use Rattle.catalogue.specs.declared.row.Indices.TheVariants.{OneGroup, TwoGroups}
 use Rattle.catalogue.specs.declared.row.Kind.{Kind}
@@ -11,8 +11,6 @@ use Rattle.room.specs.Table.{sound, table_number}
 use Rattle.values.specs.Parameters.{by_row, parameters, place}
 use Rattle.values.specs.Starts.{starts}
 use Rattle.values.specs.declared.parameter.Parameter.{Parameter}
-use Rattle.values.specs.declared.parameter.ParameterFound.{ParameterFound}
-use Rattle.values.specs.declared.parameter.ParameterFound.TheVariants.{At, Nothing}
 
 -- the number that a call answers, and what it leaves in the lent numbers
 pub record Told (A : Type 0) : Type 0 where
@@ -27,9 +25,9 @@ unfoldable pub over_table : {A : Type 0} → (zeros : List A) → (table : List 
 over_table zeros t a = cond (sound t) a (tells 1 zeros)
 
 -- 9 and zeros where module or row is not there
-unfoldable pub of_row : {A : Type 0} → (zeros : List A) → (Parameter → List A) → ParameterFound → Told A
-of_row zeros say (At p) = tells 0 (say p)
-of_row zeros say Nothing = tells 9 zeros
+unfoldable pub of_row : {A : Type 0} → (zeros : List A) → (Parameter → List A) → Option Parameter → Told A
+of_row zeros say (Some p) = tells 0 (say p)
+of_row zeros say None = tells 9 zeros
 
 -- ---- how many values
 

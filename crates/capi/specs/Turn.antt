@@ -1,7 +1,7 @@
 -- A turn for C: the row is 2,144 lent bytes, and six numbers are lent for what the turn tells.
 pub mod Laws
 pub mod Turning
-use Rattle.std.specs.Prelude.{◌≡◌, List, [], ◌∷◌, ◌++◌, ℕ, ◌*◌, ℤ, length}
+use Rattle.std.specs.Prelude.{◌≡◌, List, [], ◌∷◌, ◌++◌, ℕ, ◌*◌, ℤ, length, None, Option, Some}
 use Rattle.std.proofs.lemmas.List.Edits.{sets}
 use Rattle.values.specs.Room.{Room}
 use Rattle.line.specs.Fault.{fault_numbers}
@@ -10,8 +10,6 @@ use Rattle.serial_port.specs.Port.{View, view}
 use Rattle.serial_port.specs.Server.{control_space}
 use Rattle.connections.specs.Connections.{port_at}
 use Rattle.connections.specs.Turn.{Asked, Told, asked, bytes_of, turn}
-use Rattle.connections.specs.declared.round.Served.{Served}
-use Rattle.connections.specs.declared.round.Served.TheVariants.{Nobody, One}
 use Rattle.capi.specs.Connections.{row_of}
 use Rattle.capi.specs.Port.{PortAnswer, Stores, port_tells}
 
@@ -20,9 +18,9 @@ abbrev pub asked_of : (row : List ℕ) → (last : ℕ) → (counts given : List
 asked_of row last counts given vs reply = asked (row_of row) last counts given vs reply
 
 -- whom it served, in two numbers: 1 and which one, or 0 and 0
-unfoldable pub served_numbers : Served → List ℕ
-served_numbers Nobody = 0 ∷ 0 ∷ []
-served_numbers (One i) = 1 ∷ i ∷ []
+unfoldable pub served_numbers : Option ℕ → List ℕ
+served_numbers None = 0 ∷ 0 ∷ []
+served_numbers (Some i) = 1 ∷ i ∷ []
 
 -- the six numbers: these two, bytes consumed, the reply's length, and the cause and the place of a 99
 unfoldable pub told_numbers : Told → List ℕ
@@ -40,9 +38,9 @@ pub data PutBack (row : List ℕ) (i : ℕ) (v : View) (row' : List ℕ) : Type 
   put_back : (port : List ℕ) → (size : length port ≡ 66) → (stores : Stores v port) → (placed : row' ≡ sets row (67 * i) (1 ∷ port)) → PutBack row i v row'
 
 -- the row's bytes after a turn: as they were where nobody was served, be it that the turn was refused or that nobody waits
-abbrev pub Left : Room → Asked → Served → (row row' : List ℕ) → Type 0
-Left r a Nobody row row' = row' ≡ row
-Left r a (One i) row row' = PutBack row i (step (control_space r) a.values (view (port_at a.row i)) (bytes_of a i)).port row'
+abbrev pub Left : Room → Asked → Option ℕ → (row row' : List ℕ) → Type 0
+Left r a None row row' = row' ≡ row
+Left r a (Some i) row row' = PutBack row i (step (control_space r) a.values (view (port_at a.row i)) (bytes_of a i)).port row'
 
 -- the promise of a turn: its answer, and the bytes of the row
 pub data TurnCalled (r : Room) (vs : List ℤ) (row : List ℕ) (last : ℕ) (given counts reply : List ℕ) (g : ℕ) (vs' : List ℤ) (row' reply' told' : List ℕ) : Type 0 where

@@ -3,8 +3,7 @@ ghost use Rattle.std.specs.Prelude.{◌≡◌};
 ghost use Rattle.line.specs.Fault.{fault_numbers};
 ghost use Rattle.syntax.specs.Cause.{cause_number};
 
-use line::fault::Fault;
-use syntax::cause::Cause;
+use syntax::cause::{Cause, Malformed};
 
 // The number of a cause.
 fn cause_number(cause: Cause) -> u64
@@ -20,11 +19,12 @@ fn cause_number(cause: Cause) -> u64
 }
 
 // The number of its cause, and its place; zeros where there is none.
-pub(crate) fn fault_numbers(fault: Fault) -> [u64; 2]
+#[tactic(auto, using(line::specs::Fault::Laws::numbering))]
+pub(crate) fn fault_numbers(fault: Option<Malformed>) -> [u64; 2]
     ensures { result ≡ fault_numbers fault }
 {
     match fault {
-        Fault::Nothing => [0, 0],
-        Fault::At(cause, place) => [cause_number(cause), place as u64],
+        None => [0, 0],
+        Some(m) => [cause_number(m.cause), m.place as u64],
     }
 }

@@ -10,10 +10,11 @@ pub mod row;
 pub mod turn;
 pub mod value_list;
 
-ghost use Rattle.std.specs.Prelude.{◌≡◌};
+ghost use Rattle.std.specs.Prelude.{[], ◌∷◌, ◌≡◌};
 ghost use Rattle.room.specs.Table.{table_number};
 ghost use Rattle.values.specs.Room.{room_of};
 ghost use Rattle.wish.specs.Target.{wish_of};
+ghost use Rattle.restore.specs.Restored.{restored};
 ghost use Rattle.capi.specs.Log.{log_answer};
 ghost use Rattle.capi.specs.Panel.{panel_answer, panel_tells};
 ghost use Rattle.capi.specs.Port.{PortCalled};
@@ -24,6 +25,8 @@ use crate::port_bytes::{port_of, store};
 use line_log::part::{LogPart, log_part};
 use panel::change;
 use restore::{restore_size, restore_write};
+use restore_list::module_measuring::Size;
+use room::refusal::{Refusal, number_of};
 use room::table::check;
 
 // Whether a table is sound: 0, or the refusal's number, 1.
@@ -31,7 +34,7 @@ use room::table::check;
 pub extern "C" fn egrivundo_table(table: &[u8]) -> u8
     ensures { result ≡ table_number table.now }
 {
-    check(table)
+    number_of(check(table))
 }
 
 // The label that a line means, for the log: `told` becomes 1 for the table or 0 for the line, the start of the part, and its length.
@@ -40,13 +43,13 @@ pub extern "C" fn egrivundo_log(table: &[u8], line: &[u8], told: &mut [u64; 3])
     ensures { told.new ≡ log_answer table.now line.now }
 {
     match log_part(table, line) {
-        LogPart::Table(start, end) => {
+        Some(LogPart::Table(start, end)) => {
             *told = [1, start as u64, (end - start) as u64];
         }
-        LogPart::Line(start, end) => {
+        Some(LogPart::Line(start, end)) => {
             *told = [0, start as u64, (end - start) as u64];
         }
-        LogPart::Nothing => {
+        None => {
             *told = [0, 0, 0];
         }
     }
@@ -94,9 +97,18 @@ pub extern "C" fn egrivundo_panel(
     ensures { panel_tells result told.new values.new reply.new ≡ panel_answer (room_of table.now) values.old reply.old owner row value }
 {
     let changed = change(table, values, owner as usize, row as usize, value, reply);
-    let length = changed.sent as u64;
-    *told = [length];
-    changed.number
+    *told = [changed.unwrap_or(0) as u64];
+    number_of(changed)
+}
+
+// The bytes and the lines of a list; a refusal counts zero.
+fn size_told(sized: Result<Size, Refusal>) -> [u64; 2]
+    ensures { result ≡ (restored sized).bytes ∷ (restored sized).lines ∷ [] }
+{
+    match sized {
+        Ok(size) => [size.bytes as u64, size.lines as u64],
+        Err(_) => [0, 0],
+    }
 }
 
 // The size call: `told` becomes the bytes and the lines of the list that the writing call writes.
@@ -111,8 +123,8 @@ pub extern "C" fn egrivundo_restore_size(
     ensures { size_tells result told.new ≡ size_answer (wish_of table.now present.now selection.now wanted.now) }
 {
     let sized = restore_size(table, present, selection, wanted);
-    *told = [sized.bytes as u64, sized.lines as u64];
-    sized.number
+    *told = size_told(sized);
+    number_of(sized)
 }
 
 // The writing call: `told` becomes the bytes and the lines written.
@@ -128,6 +140,6 @@ pub extern "C" fn egrivundo_restore_write(
     ensures { restore_tells result told.new list.new ≡ restore_answer (wish_of table.now present.now selection.now wanted.now) list.old }
 {
     let restored = restore_write(table, present, selection, wanted, list);
-    *told = [restored.bytes as u64, restored.lines as u64];
-    restored.number
+    *told = size_told(restored);
+    number_of(restored)
 }

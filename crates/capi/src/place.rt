@@ -2,10 +2,8 @@
 ghost use Rattle.std.specs.Prelude.{◌≡◌};
 ghost use Rattle.capi.specs.Rows.{place_answer, tells};
 
-use catalogue::table::all_rows;
 use room::table::is_sound;
 use values::by_row::by_row;
-use values::parameter::ParameterFound;
 
 // The place of a row's value in the list. The row is named by the numbers of its module and of itself, both counted from 0.
 #[unsafe(no_mangle)]
@@ -16,15 +14,14 @@ pub extern "C" fn egrivundo_place(table: &[u8], owner: u64, row: u64, told: &mut
         *told = [0];
         return 1;
     }
-    let rows = all_rows();
-    match by_row(table, &rows, owner as usize, row as usize) {
-        ParameterFound::At(p) => {
+    match by_row(table, owner as usize, row as usize) {
+        Some(p) => {
             let m = p.owner;
             let place = m.first + p.number;
             *told = [place as u64];
             0
         }
-        ParameterFound::Nothing => {
+        None => {
             *told = [0];
             9
         }

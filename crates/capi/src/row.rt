@@ -4,10 +4,8 @@ ghost use Rattle.capi.specs.Rows.{first_index, kind_number, row_answer, row_numb
 ghost use Rattle.capi.specs.Rows.Telling.{Narrow, NarrowIndices};
 
 use catalogue::row::{Indices, Kind, Row};
-use catalogue::table::all_rows;
 use room::table::is_sound;
 use values::by_row::by_row;
-use values::parameter::ParameterFound;
 
 // The first index of a row.
 fn first_index(indices: Indices) -> i64
@@ -70,14 +68,13 @@ pub extern "C" fn egrivundo_row(table: &[u8], owner: u64, row: u64, told: &mut [
         *told = [0, 0, 0, 0, 0, 0, 0];
         return 1;
     }
-    let rows = all_rows();
-    match by_row(table, &rows, owner as usize, row as usize) {
-        ParameterFound::At(p) => {
+    match by_row(table, owner as usize, row as usize) {
+        Some(p) => {
             let found = p.row;
             *told = row_numbers(found);
             0
         }
-        ParameterFound::Nothing => {
+        None => {
             *told = [0, 0, 0, 0, 0, 0, 0];
             9
         }

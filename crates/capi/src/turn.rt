@@ -7,7 +7,6 @@ ghost use Rattle.capi.specs.Turn.Turning.{TurnsPicked};
 
 use crate::connection_bytes::{connection_at, store_served, survey_of, switch_bytes};
 use crate::fault::fault_numbers;
-use connections::round::Served;
 use connections::turning::{TurnedOne, pick, turn_one};
 
 // The turn for the connection that is picked and taken out of the row, which is only read.
@@ -31,6 +30,7 @@ fn turn_picked(
 
 // A turn: `told` becomes 1 and the number of the connection that was served, or 0 and 0 for nobody, the bytes consumed, the reply's length, and the cause and place of a 99. The
 // row is stored only where one was served.
+#[tactic(auto, using(crate::specs::Turn::Turning::turning))]
 #[unsafe(no_mangle)]
 pub extern "C" fn egrivundo_turn(
     table: &[u8],
@@ -50,13 +50,12 @@ pub extern "C" fn egrivundo_turn(
     }
     let done = turn_picked(table, values, row, last as usize, given, counts, reply);
     let turned = done.turned;
-    let served = turned.served;
-    match served {
-        Served::Nobody => {
+    match turned.served {
+        None => {
             *told = [0, 0, 0, 0, 0, 0];
             turned.number
         }
-        Served::One(one) => {
+        Some(one) => {
             let why = turned.fault;
             let fault = fault_numbers(why);
             let consumed = turned.consumed as u64;

@@ -2,7 +2,6 @@
 ghost use Rattle.std.specs.Prelude.{◌≡◌};
 ghost use Rattle.capi.specs.Rows.{count_answer, starts_answer, tells};
 
-use catalogue::table::all_rows;
 use room::table::is_sound;
 use values::parameter::parameter_count;
 use values::starts::fill_starts;
@@ -33,7 +32,6 @@ pub extern "C" fn egrivundo_starts(table: &[u8], values: &mut [i64]) -> u8
     if values.len() != count {
         return 2;
     }
-    let rows = all_rows();
-    fill_starts(table, &rows, values);
+    fill_starts(table, values);
     0
 }

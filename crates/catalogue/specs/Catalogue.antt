@@ -6,7 +6,7 @@ pub mod Each
 pub mod Fits
 pub mod Laws
 pub mod Modules
-pub mod Numbers
+pub mod Narrow
 pub mod Routed
 pub mod Rules
 pub mod Run
@@ -21,11 +21,7 @@ use Rattle.catalogue.specs.declared.row.Indices.TheVariants.{OneGroup, TwoGroups
 use Rattle.catalogue.specs.declared.row.Kind.{Kind}
 use Rattle.catalogue.specs.declared.row.Kind.TheVariants.{Level, Switch, Number, Word}
 use Rattle.catalogue.specs.declared.row.Row.{Row}
-
--- a row, and the module type that has it
-pub record Entry : Type 0 where
-  pub owner : ℕ
-  pub row : Row
+use Rattle.catalogue.specs.declared.table.Entry.{Entry}
 
 unfoldable pub minus : ℕ → ℤ
 minus n = neg_ℤ (pos n)
@@ -151,14 +147,7 @@ entry_at n = get_or catalogue n no_entry
 unfoldable pub row_of : Layout → ℕ → Row
 row_of l number = get_or (rows_of l) number no_row
 
--- ---- the catalogue as the constant's numbers
-
--- no entry of the catalogue is a word
-unfoldable pub kind_number : Kind → ℤ
-kind_number Level = pos 0
-kind_number Switch = pos 1
-kind_number Number = pos 2
-kind_number Word = pos 3
+-- ---- the numbers of a row's indices, by which the rows of a type rise
 
 unfoldable pub first_number : Indices → ℤ
 first_number (OneGroup a) = pos a
@@ -168,19 +157,3 @@ first_number (TwoGroups a b) = pos a
 unfoldable pub second_number : Indices → ℤ
 second_number (OneGroup a) = negsuc 0
 second_number (TwoGroups a b) = pos b
-
-unfoldable pub columns : Entry → List ℤ
-columns e =
-    pos e.owner ∷
-    first_number e.row.indices ∷
-    second_number e.row.indices ∷
-    kind_number e.row.kind ∷
-    e.row.low ∷
-    e.row.high ∷
-    pos e.row.step ∷
-    cond e.row.settable (pos 1) (pos 0) ∷
-    []
-
--- type, index 1, index 2, kind, low, high, step and settable of each row
-unfoldable pub numbers : List (List ℤ)
-numbers = map columns catalogue

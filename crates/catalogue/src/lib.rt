@@ -3,7 +3,7 @@
 
 pub mod groups;
 pub mod layout;
-pub mod lent_row;
+pub mod listed;
 pub mod mixer;
 pub mod row;
 pub mod table;

@@ -2,15 +2,14 @@
 pub mod Number
 pub mod Picking
 pub mod Single
-use Rattle.std.specs.Prelude.{◌≡◌, Bool, true, cond, ◌&&◌, List, [], ◌∷◌, ℕ, zero, suc, eqb, leb, ℤ, length, set}
+use Rattle.std.specs.Prelude.{◌≡◌, Bool, true, cond, ◌&&◌, List, [], ◌∷◌, ℕ, zero, suc, eqb, leb, ℤ, length, set, None, Option, Some}
 use Rattle.text.specs.Every.{every}
 use Rattle.room.specs.Refusal.{first_refusal}
 use Rattle.room.specs.Table.{table_number}
 use Rattle.values.specs.Room.{Room}
 use Rattle.values.specs.Values.{values_number}
 use Rattle.syntax.specs.Shape.{line_limit}
-use Rattle.line.specs.declared.fault.Fault.{Fault}
-use Rattle.line.specs.declared.fault.Fault.TheVariants.{Nothing}
+use Rattle.syntax.specs.declared.cause.Malformed.{Malformed}
 use Rattle.serial_port.specs.Call as port
 use Rattle.serial_port.specs.Call.{call, Answers}
 use Rattle.serial_port.specs.Refusal.{reply_limit, reply_number}
@@ -20,8 +19,6 @@ use Rattle.connections.specs.Connections.{port_at, flags}
 use Rattle.connections.specs.Parts.{connection_count, counts_right, waiting_of}
 use Rattle.connections.specs.Round.{waits_by, next}
 use Rattle.connections.specs.declared.connection.Connection.{Connection}
-use Rattle.connections.specs.declared.round.Served.{Served}
-use Rattle.connections.specs.declared.round.Served.TheVariants.{Nobody, One}
 use Rattle.connections.specs.declared.turning.Turned.{Turned}
 
 -- what a turn is given besides the table: the row and the last served, the counts and the bytes that they divide, the values and the reply buffer
@@ -56,7 +53,7 @@ turn_number r a =
     first_refusal (row_number a ∷ table_number r.table ∷ values_number r a.values ∷ reply_number reply_limit (length a.buffer) ∷ ports_number a.row ∷ [])
 
 -- whose turn it is
-unfoldable pub chosen : Asked → Served
+unfoldable pub chosen : Asked → Option ℕ
 chosen a = next a.last (waits_by (flags a.row) a.counts)
 
 -- the bytes that wait for connection i
@@ -66,10 +63,10 @@ bytes_of a i = waiting_of a.counts a.given i
 -- what a turn tells, and what it leaves as the values and in the reply buffer
 pub record Told : Type 0 where
   pub number : ℕ
-  pub served : Served
+  pub served : Option ℕ
   pub consumed : ℕ
   pub sent : ℕ
-  pub fault : Fault
+  pub fault : Option Malformed
   pub values : List ℤ
   pub buffer : List ℕ
 
@@ -79,17 +76,17 @@ tells t vs buffer = record { number = t.number; served = t.served; consumed = t.
 
 -- nobody is served: it counts zero, tells no fault and changes nothing
 unfoldable pub idle : (number : ℕ) → Asked → Told
-idle number a = record { number = number; served = Nobody; consumed = 0; sent = 0; fault = Nothing; values = a.values; buffer = a.buffer }
+idle number a = record { number = number; served = None; consumed = 0; sent = 0; fault = None; values = a.values; buffer = a.buffer }
 
 -- connection i is served: what its port call tells
 unfoldable pub busy : (i : ℕ) → port.Told (List ℤ) → Told
 busy i t =
-    record { number = t.number; served = One i; consumed = t.consumed; sent = t.sent; fault = t.fault; values = t.state; buffer = t.buffer }
+    record { number = t.number; served = Some i; consumed = t.consumed; sent = t.sent; fault = t.fault; values = t.state; buffer = t.buffer }
 
 -- by the number, and by whose turn it is
-unfoldable pub tell : Room → Asked → (number : ℕ) → Served → Told
-tell r a zero Nobody = idle 0 a
-tell r a zero (One i) = busy i (call r a.values (port_at a.row i) (bytes_of a i) a.buffer)
+unfoldable pub tell : Room → Asked → (number : ℕ) → Option ℕ → Told
+tell r a zero None = idle 0 a
+tell r a zero (Some i) = busy i (call r a.values (port_at a.row i) (bytes_of a i) a.buffer)
 tell r a (suc n) s = idle (suc n) a
 
 -- the whole turn
@@ -107,9 +104,9 @@ pub data PutBack (r : Room) (a : Asked) (i : ℕ) (t : Told) (row' : List Connec
       → PutBack r a i t row'
 
 -- the row afterwards: a refusal, and a turn with nobody waiting, leave it as it was
-abbrev pub Left : Room → Asked → (number : ℕ) → Served → Told → (row' : List Connection) → Type 0
-Left r a zero Nobody t row' = row' ≡ a.row
-Left r a zero (One i) t row' = PutBack r a i t row'
+abbrev pub Left : Room → Asked → (number : ℕ) → Option ℕ → Told → (row' : List Connection) → Type 0
+Left r a zero None t row' = row' ≡ a.row
+Left r a zero (Some i) t row' = PutBack r a i t row'
 Left r a (suc n) s t row' = row' ≡ a.row
 
 -- the promise of a turn: what it tells, and the row that it leaves

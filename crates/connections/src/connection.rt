@@ -25,44 +25,39 @@ pub struct Switched {
 }
 
 // Whether a connection that is to be open, or to be closed, is not so yet.
+#[tactic(auto, using(crate::specs::Connections::Switching::switching))]
 pub fn is_change(want: bool, is_open: bool) -> bool
     ensures { result ≡ changes want is_open }
 {
-    if want {
-        return !is_open;
-    }
-    is_open
+    if want { !is_open } else { is_open }
 }
 
 // Opens or closes one connection, with a fresh port; 10 where it is so already.
+#[tactic(auto, using(crate::specs::Connections::Switching::switching))]
 fn switch_one(connection: Connection, want: bool) -> Switched
     ensures { SwitchesOne want connection result }
 {
     if !is_change(want, connection.is_open) {
         return Switched {
-            connection: connection,
+            connection,
             number: 10,
         };
     }
-    let port = Port::fresh();
-    let anew = Connection {
-        is_open: want,
-        port: port,
-    };
     Switched {
-        connection: anew,
+        connection: Connection {
+            is_open: want,
+            port: Port::fresh(),
+        },
         number: 0,
     }
 }
 
 // Whether a row of `count` connections is one of 32, and the number is not over 31.
+#[tactic(auto, using(crate::specs::Connections::Switching::places))]
 fn is_place(count: usize, number: usize) -> bool
     ensures { result ≡ is_place count number }
 {
-    if count != 32 {
-        return false;
-    }
-    number <= 31
+    count == 32 && number <= 31
 }
 
 // Opens a connection of a row (`want` is true) or closes it: it is taken out, opened or closed, and put back. 10 where there is none with the number.
@@ -82,10 +77,9 @@ pub fn switch(row: &mut [Connection], number: usize, want: bool) -> u8
 pub fn fresh_row() -> Fresh
     ensures { FreshRow result }
 {
-    let port = Port::fresh();
     let closed = Connection {
         is_open: false,
-        port: port,
+        port: Port::fresh(),
     };
     Fresh {
         row: [closed; 32],

@@ -1,66 +1,56 @@
-// The number that a turn over a row of 32 is refused with.
+// Why a turn over a row of 32 is refused.
 ghost use Rattle.std.specs.Prelude.{◌≡◌};
-ghost use Rattle.catalogue.specs.Catalogue.{numbers};
+ghost use Rattle.room.specs.Refusal.{number_of};
 ghost use Rattle.values.specs.Room.{room_of};
 ghost use Rattle.connections.specs.Turn.Number.{claims_number, fit_number, number_by};
 
 use crate::parts::counts_right;
+use room::refusal::Refusal;
 use room::table::check;
-use serial_port::refusal::{REPLY, reply_number};
-use values::values_number;
+use serial_port::refusal::{REPLY, check_reply};
+use values::check_values;
 
-// 10 where the counts do not divide the bytes, or the last served is over 31, or 0.
-fn fit_number(counts: &[u64], bytes: usize, last: usize) -> u8
-    ensures { result ≡ fit_number counts.now bytes last }
+// Refuses counts that do not divide the bytes, and a last served over 31.
+#[tactic(auto, using(crate::specs::Turn::Number::numbering))]
+fn check_fit(counts: &[u64], bytes: usize, last: usize) -> Result<(), Refusal>
+    ensures { number_of result ≡ fit_number counts.now bytes last }
 {
     if !counts_right(counts, bytes) {
-        return 10;
+        return Err(Refusal::Connections);
     }
     if 31 < last {
-        return 10;
+        return Err(Refusal::Connections);
     }
-    0
+    Ok(())
 }
 
-// 4 where not every port claims at most 64 bytes, or 0.
-fn claims_number(few: bool) -> u8
-    ensures { result ≡ claims_number few }
+// Refuses a row in which not every port claims at most 64 bytes.
+#[tactic(auto, unfolding(crate::specs::Turn::Number::claims_number))]
+fn check_claims(few: bool) -> Result<(), Refusal>
+    ensures { number_of result ≡ claims_number few }
 {
     if few {
-        return 0;
+        return Ok(());
     }
-    4
+    Err(Refusal::HeldBytes)
 }
 
-// The number that a turn is refused with, the first in its order, and 0 where it is not: `few` was noted of the ports, `bytes` wait in all, and `room` bytes are there for the reply.
-pub(crate) fn turn_number(
+// Refuses a turn for the first reason in its order: `few` was noted of the ports, `bytes` wait in all, and `room` bytes are there for the reply.
+#[tactic(auto, using(crate::specs::Turn::Number::numbering))]
+pub(crate) fn check_turn(
     few: bool,
     last: usize,
     table: &[u8],
-    rows: &[[i32; 8]; 50],
     values: &[i64],
     bytes: usize,
     counts: &[u64],
     room: usize,
-) -> u8
-    requires { rows.now ≡ numbers }
-    ensures { result ≡ number_by (room_of table.now) few last counts.now bytes values.now room }
+) -> Result<(), Refusal>
+    ensures { number_of result ≡ number_by (room_of table.now) few last counts.now bytes values.now room }
 {
-    let of_fit = fit_number(counts, bytes, last);
-    if of_fit != 0 {
-        return of_fit;
-    }
-    let of_table = check(table);
-    if of_table != 0 {
-        return of_table;
-    }
-    let of_values = values_number(table, rows, values);
-    if of_values != 0 {
-        return of_values;
-    }
-    let of_reply = reply_number(REPLY, room);
-    if of_reply != 0 {
-        return of_reply;
-    }
-    claims_number(few)
+    check_fit(counts, bytes, last)?;
+    check(table)?;
+    check_values(table, values)?;
+    check_reply(REPLY, room)?;
+    check_claims(few)
 }

@@ -3,6 +3,7 @@ ghost use Rattle.std.specs.Prelude.{◌≡◌, ◌<◌, ◌≤◌, ◌^◌, leng
 ghost use Rattle.connections.specs.Parts.{counts_right, part_start, total};
 
 // Whether there are 32 counts, and they add up to `bytes`. They are taken from it one by one, so no sum is made that could wrap.
+#[tactic(auto, using(crate::specs::Parts::Adding::taking))]
 pub fn counts_right(counts: &[u64], bytes: usize) -> bool
     ensures { result ≡ counts_right counts.now bytes }
 {
@@ -10,28 +11,24 @@ pub fn counts_right(counts: &[u64], bytes: usize) -> bool
         return false;
     }
     let mut left = bytes as u64;
-    let mut i = 0;
-    while i < counts.len() {
-        let count = counts[i];
+    for &count in counts {
         if left < count {
             return false;
         }
         left -= count;
-        i += 1;
     }
     left == 0
 }
 
-// Where the bytes of connection `number` begin: behind those of all connections before it, closed ones too.
+// Where the bytes of connection `number` begin: after those of all connections before it, closed ones too.
+#[tactic(auto, using(crate::specs::Parts::Adding::adding))]
 pub fn part_start(counts: &[u64], number: usize) -> usize
     requires { (number ≤ length counts.now) × (total counts.now < 2 ^ 64) }
     ensures { result ≡ part_start counts.now number }
 {
     let mut at = 0;
-    let mut passed = 0;
-    while passed < number {
+    for passed in 0..number {
         at += counts[passed] as usize;
-        passed += 1;
     }
     at
 }

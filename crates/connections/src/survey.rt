@@ -24,59 +24,51 @@ pub(crate) fn nothing_noted() -> Survey
 }
 
 // The flags with one of them set; those of a longer row have no place.
+#[tactic(auto, using(crate::specs::Survey::Noting::noting))]
 fn with_flag(flags: [bool; 32], number: usize, is_open: bool) -> [bool; 32]
     ensures { result ≡ set flags number is_open }
 {
     let mut after = flags;
-    if 32 <= number {
-        return after;
+    if number < 32 {
+        after[number] = is_open;
     }
-    after[number] = is_open;
     after
 }
 
 // Whether all ports claim at most 64 bytes, by whether those before do, and what one more claims.
+#[tactic(auto, using(crate::specs::Survey::Noting::noting))]
 pub fn still_few(few: bool, claims: usize) -> bool
     ensures { result ≡ (few && leb claims line_limit) }
 {
-    if claims <= HELD {
-        return few;
-    }
-    false
+    few && claims <= HELD
 }
 
 // How many bytes the port of a connection claims, be it open or closed.
 fn claims(connection: Connection) -> usize
     ensures { result ≡ connection.port.len }
 {
-    let port = connection.port;
-    port.len
+    connection.port.len
 }
 
 // Notes one connection.
+#[tactic(auto, using(crate::specs::Survey::Noting::noting))]
 fn note(survey: Survey, number: usize, connection: Connection) -> Survey
     ensures { result ≡ noted survey number connection }
 {
-    let before = survey.flags;
-    let flags = with_flag(before, number, connection.is_open);
-    let claimed = claims(connection);
-    let few = still_few(survey.few, claimed);
     Survey {
-        few: few,
-        flags: flags,
+        few: still_few(survey.few, claims(connection)),
+        flags: with_flag(survey.flags, number, connection.is_open),
     }
 }
 
 // Looks over a row, in number order, and notes each connection.
+#[tactic(auto, using(crate::specs::Survey::Noting::noting))]
 pub(crate) fn look_over(row: &[Connection], start: Survey) -> Survey
     ensures { result ≡ surveyed_from 0 row.now start }
 {
     let mut survey = start;
-    let mut i = 0;
-    while i < row.len() {
-        let connection = row[i];
-        survey = note(survey, i, connection);
-        i = i + 1;
+    for i in 0..row.len() {
+        survey = note(survey, i, row[i]);
     }
     survey
 }

@@ -1,6 +1,5 @@
 // A turn for the connection that was taken out of the row.
 ghost use Rattle.std.specs.Prelude.{true, ◌≡◌, ◌<◌, ◌≤◌, length};
-ghost use Rattle.catalogue.specs.Catalogue.{numbers};
 ghost use Rattle.room.specs.Table.{sound};
 ghost use Rattle.values.specs.Room.{room_of};
 ghost use Rattle.values.specs.Values.{values_sound};
@@ -9,21 +8,20 @@ ghost use Rattle.connections.specs.Turn.Picking.{picked};
 ghost use Rattle.connections.specs.Turn.Single.{ServesNext, ServesWaiting, TurnsAt, TurnsOne, still};
 
 use crate::connection::Connection;
-use crate::number::turn_number;
+use crate::number::check_turn;
 use crate::parts::part_start;
-use crate::round::{Served, next_waiting};
+use crate::round::next_waiting;
 use crate::serving::serve_one;
 use crate::survey::Survey;
-use catalogue::table::all_rows;
-use line::fault::Fault;
+use syntax::cause::Malformed;
 
 // What a turn tells: whom it served, how many bytes the call consumed and sent, why the reply is 99, and the number of a refusal or 0.
 #[derive(Clone, Copy)]
 pub struct Turned {
-    pub served: Served,
+    pub served: Option<usize>,
     pub consumed: usize,
     pub sent: usize,
-    pub fault: Fault,
+    pub fault: Option<Malformed>,
     pub number: u8,
 }
 
@@ -35,47 +33,43 @@ pub struct TurnedOne {
 }
 
 // Nobody is served.
-pub(crate) fn idle(number: u8) -> Turned
-    ensures { result ≡ still number }
+pub(crate) fn idle(refusal: u8) -> Turned
+    ensures { result ≡ still refusal }
 {
-    let served = Served::Nobody;
-    let fault = Fault::Nothing;
     Turned {
-        served: served,
+        served: None,
         consumed: 0,
         sent: 0,
-        fault: fault,
-        number: number,
+        fault: None,
+        number: refusal,
     }
 }
 
 // Serves the connection with its own part of the bytes.
+#[tactic(auto, using(crate::proofs::Laws::Turn::Single::Rules::waiting))]
 fn serve_next(
     connection: Connection,
     number: usize,
     table: &[u8],
-    rows: &[[i32; 8]; 50],
     given: &[u8],
     counts: &[u64],
     values: &mut [i64],
     reply: &mut [u8],
 ) -> TurnedOne
-    requires table_value { (sound table.now ≡ true) × (rows.now ≡ numbers) × (values_sound (room_of table.now) values.old ≡ true) × (64 ≤ length reply.old) }
+    requires table_value { (sound table.now ≡ true) × (values_sound (room_of table.now) values.old ≡ true) × (64 ≤ length reply.old) }
     requires number_in_bounds { (number < length counts.now) × (total counts.now ≡ length given.now) }
     ensures { ServesNext (room_of table.now) number counts.now given.now values.old reply.old connection result values.new reply.new }
 {
     let start = part_start(counts, number);
     let end = start + counts[number] as usize;
-    let done = serve_one(connection, table, rows, &given[start..end], values, reply);
+    let done = serve_one(connection, table, &given[start..end], values, reply);
     let after = done.connection;
     let answer = done.answer;
-    let fault = answer.fault;
-    let served = Served::One(number);
     let turned = Turned {
-        served: served,
+        served: Some(number),
         consumed: answer.consumed,
         sent: answer.sent,
-        fault: fault,
+        fault: answer.fault,
         number: answer.number,
     };
     TurnedOne {
@@ -85,37 +79,35 @@ fn serve_next(
 }
 
 // A turn that is not refused: nobody waits, or the connection is served as the next that does.
+#[tactic(auto, using(crate::proofs::Laws::Turn::Single::Rules::waiting))]
 fn serve_waiting(
     connection: Connection,
     flags: [bool; 32],
     last: usize,
     table: &[u8],
-    rows: &[[i32; 8]; 50],
     given: &[u8],
     counts: &[u64],
     values: &mut [i64],
     reply: &mut [u8],
 ) -> TurnedOne
-    requires table_value { (sound table.now ≡ true) × (rows.now ≡ numbers) × (values_sound (room_of table.now) values.old ≡ true) × (64 ≤ length reply.old) }
+    requires table_value { (sound table.now ≡ true) × (values_sound (room_of table.now) values.old ≡ true) × (64 ≤ length reply.old) }
     requires last_bound { (last ≤ 31) × (length counts.now ≡ 32) × (total counts.now ≡ length given.now) }
     ensures { ServesWaiting (room_of table.now) flags last counts.now given.now values.old reply.old connection result values.new reply.new }
 {
-    let served = next_waiting(&flags, counts, last);
-    match served {
-        Served::Nobody => {
+    match next_waiting(&flags, counts, last) {
+        None => {
             let turned = idle(0);
             TurnedOne {
                 connection: connection,
                 turned: turned,
             }
         }
-        Served::One(next) => serve_next(
-            connection, next, table, rows, given, counts, values, reply,
-        ),
+        Some(next) => serve_next(connection, next, table, given, counts, values, reply),
     }
 }
 
 // The turn, for a connection that is the next that waits where there is one: refused, or as above.
+#[tactic(auto, using(crate::proofs::Laws::Turn::Single::Rules::turning))]
 pub fn turn_one(
     connection: Connection,
     survey: Survey,
@@ -128,21 +120,17 @@ pub fn turn_one(
 ) -> TurnedOne
     ensures { TurnsOne (room_of table.now) survey last counts.now given.now values.old reply.old connection result values.new reply.new }
 {
-    let rows = all_rows();
     let bytes = given.len();
     let room = reply.len();
-    let number = turn_number(survey.few, last, table, &rows, values, bytes, counts, room);
-    if number != 0 {
-        let turned = idle(number);
+    if let Err(refusal) = check_turn(survey.few, last, table, values, bytes, counts, room) {
+        let turned = idle(refusal.into());
         return TurnedOne {
             connection: connection,
             turned: turned,
         };
     }
     let flags = survey.flags;
-    serve_waiting(
-        connection, flags, last, table, &rows, given, counts, values, reply,
-    )
+    serve_waiting(connection, flags, last, table, given, counts, values, reply)
 }
 
 // Takes one connection out of the row, has the turn made for it, and puts it back.
@@ -169,6 +157,7 @@ pub(crate) fn turn_at(
 }
 
 // The number of the connection to take out of a row of 32: the next that waits, or 0 where there is none or a turn is refused with 10.
+#[tactic(auto, using(crate::specs::Turn::Picking::picking))]
 pub fn pick(survey: Survey, counts: &[u64], last: usize) -> usize
     ensures { result ≡ picked survey.flags counts.now last }
 {
@@ -179,9 +168,8 @@ pub fn pick(survey: Survey, counts: &[u64], last: usize) -> usize
         return 0;
     }
     let flags = survey.flags;
-    let served = next_waiting(&flags, counts, last);
-    match served {
-        Served::Nobody => 0,
-        Served::One(next) => next,
+    match next_waiting(&flags, counts, last) {
+        None => 0,
+        Some(next) => next,
     }
 }

@@ -1,6 +1,6 @@
 -- The answer to a get line reads back: with `SA` for its `GA` and without its 0D it is a set line that names the same parameter and says its value.
 pub mod Laws
-use Rattle.std.specs.Prelude.{◌≡◌, List, [], ◌∷◌, ℕ, ◌+◌, ◌≤◌, ℤ, length, take}
+use Rattle.std.specs.Prelude.{◌≡◌, List, [], ◌∷◌, ℕ, ◌+◌, ◌≤◌, ℤ, length, take, Some}
 use Rattle.text.specs.Cut.{index_of}
 use Rattle.catalogue.specs.declared.groups.Part.{Part}
 use Rattle.values.specs.declared.parameter.Parameter.{Parameter}
@@ -9,7 +9,6 @@ use Rattle.spelling.specs.Reply.{as_set_line}
 use Rattle.spelling.specs.Text.{part_text}
 use Rattle.line.specs.Said.Naming.{Parts}
 use Rattle.line.specs.Said.Texts.{part_put}
-use Rattle.syntax.specs.declared.value_text.ValueText.TheVariants.{Value}
 
 -- what a get reply says: the part u of the parameter p by label and index groups, and this part of the value v; said to a present value it puts the part
 pub record Told (t : List ℕ) (p : Parameter) (u : Part) (v : ℤ) (reply : List ℕ) : Type 0 where
@@ -17,4 +16,4 @@ pub record Told (t : List ℕ) (p : Parameter) (u : Part) (v : ℤ) (reply : Lis
   pub ends : index_of 0x0D reply + 1 ≡ length reply
   pub short : length reply ≤ 51
   pub parts : Parts t p u (part_text p.row.kind u v) (as_set_line reply)
-  pub says : (present : ℤ) → read_part p.row.kind u present (part_text p.row.kind u v) ≡ Value (part_put u present v)
+  pub says : (present : ℤ) → read_part p.row.kind u present (part_text p.row.kind u v) ≡ Some (part_put u present v)

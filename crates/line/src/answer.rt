@@ -1,7 +1,6 @@
 // The answer to a line: the reply, why it was 99, and the values afterwards.
 ghost use Rattle.std.specs.Prelude.{true, ◌≡◌, ◌+◌, ◌<◌, ◌≤◌, pos, get_or, length, set};
 ghost use Rattle.text.specs.Written.{Wrote};
-ghost use Rattle.catalogue.specs.Catalogue.{numbers};
 ghost use Rattle.values.specs.Parameters.{place};
 ghost use Rattle.room.specs.Table.{sound};
 ghost use Rattle.values.specs.Room.{room_of};
@@ -13,12 +12,12 @@ ghost use Rattle.line.specs.Answer.Replying.{Tellable};
 ghost use Rattle.spelling.specs.Reply.{get_reply};
 ghost use Rattle.spelling.specs.Acknowledgement.{ack};
 
-use crate::fault::Fault;
 use crate::meaning::{Meaning, bearer_of, meaning_of};
 use catalogue::groups::Part;
-use room::label::Bearer;
+use room::table::Module;
 use spelling::acknowledgement::{put_ack, put_nak};
 use spelling::reply::put_get;
+use syntax::cause::Malformed;
 use syntax::shape::{Shape, shape_of};
 use values::parameter::Parameter;
 
@@ -26,7 +25,7 @@ use values::parameter::Parameter;
 #[derive(Clone, Copy)]
 pub struct Answered {
     pub sent: usize,
-    pub fault: Fault,
+    pub fault: Option<Malformed>,
 }
 
 // Tells the present value of a part of a parameter.
@@ -54,50 +53,43 @@ fn put(values: &mut [i64], p: Parameter, x: i64, reply: &mut [u8]) -> usize
 // Answers a shaped line, where the bearer of its label is known: does what it means.
 fn answer_shaped(
     table: &[u8],
-    rows: &[[i32; 8]; 50],
     values: &mut [i64],
     line: &[u8],
-    bearer: Bearer,
-    shape: Shape,
+    bearer: Option<Module>,
+    shape: Result<Shape, Malformed>,
     reply: &mut [u8],
 ) -> Answered
-    requires table_value { (sound table.now ≡ true) × (rows.now ≡ numbers) × (values_sound (room_of table.now) values.old ≡ true) }
+    requires table_value { (sound table.now ≡ true) × (values_sound (room_of table.now) values.old ≡ true) }
     requires in_bounds { (64 ≤ length reply.old) × (shape ≡ syntax.shape line.now) × (bearer ≡ bearer_of table.now line.now shape) }
     ensures { Answers (room_of table.now) values.old line.now reply.old result values.new reply.new }
 {
-    match meaning_of(table, rows, values, line, bearer, shape) {
+    match meaning_of(table, values, line, bearer, shape) {
         Meaning::Malformed(cause, place) => Answered {
             sent: put_nak(reply, 99),
-            fault: Fault::At(cause, place),
+            fault: Some(Malformed { cause, place }),
         },
         Meaning::Code(n) => Answered {
             sent: put_nak(reply, n),
-            fault: Fault::Nothing,
+            fault: None,
         },
         Meaning::Get(p, named) => Answered {
             sent: tell(table, values, p, named, reply),
-            fault: Fault::Nothing,
+            fault: None,
         },
         Meaning::Put(p, x) => Answered {
             sent: put(values, p, x, reply),
-            fault: Fault::Nothing,
+            fault: None,
         },
     }
 }
 
 // Answers a line: writes the reply at its buffer's start, tells its length and why it is 99, and sets the value that the line puts.
-pub fn answer_line(
-    table: &[u8],
-    rows: &[[i32; 8]; 50],
-    values: &mut [i64],
-    line: &[u8],
-    reply: &mut [u8],
-) -> Answered
-    requires table_value { (sound table.now ≡ true) × (rows.now ≡ numbers) × (values_sound (room_of table.now) values.old ≡ true) }
+pub fn answer_line(table: &[u8], values: &mut [i64], line: &[u8], reply: &mut [u8]) -> Answered
+    requires table_value { (sound table.now ≡ true) × (values_sound (room_of table.now) values.old ≡ true) }
     requires in_bounds { 64 ≤ length reply.old }
     ensures { Answers (room_of table.now) values.old line.now reply.old result values.new reply.new }
 {
     let shape = shape_of(line);
     let bearer = bearer_of(table, line, shape);
-    answer_shaped(table, rows, values, line, bearer, shape, reply)
+    answer_shaped(table, values, line, bearer, shape, reply)
 }

@@ -1,6 +1,6 @@
 // What a line means: why it is malformed, the first code that applies, or the parameter that it names.
 ghost use Rattle.std.specs.Prelude.{true, ◌≡◌, pos, get_or, length, ◌+◌, ◌<◌};
-ghost use Rattle.catalogue.specs.Catalogue.{known_layout, numbers};
+ghost use Rattle.catalogue.specs.Catalogue.{known_layout};
 ghost use Rattle.room.specs.Label.{bearer};
 ghost use Rattle.text.specs.Cut.{part};
 ghost use Rattle.values.specs.Parameters.{place};
@@ -13,13 +13,13 @@ ghost use Rattle.syntax.specs.Shape as syntax;
 ghost use Rattle.syntax.specs.Value.{read_value};
 
 use catalogue::groups::Part;
-use room::label::{Bearer, find_bearer};
+use room::label::find_bearer;
 use room::table::Module;
-use syntax::cause::Cause;
-use syntax::index_part::{IndexPart, read_indices};
+use syntax::cause::{Cause, Malformed};
+use syntax::index_part::read_indices;
 use syntax::shape::Shape;
-use syntax::value_text::{ValueText, read_value};
-use values::control::{ControlFound, named};
+use syntax::value_text::read_value;
+use values::control::named;
 use values::parameter::Parameter;
 
 // Why the line is malformed and where, a code that it is answered with, a part of a parameter to tell, or a parameter and the value it is set to.
@@ -32,34 +32,31 @@ pub enum Meaning {
 }
 
 // What an index part names in a module.
-fn indexed(rows: &[[i32; 8]; 50], m: Module, part: &[u8]) -> ControlFound
-    requires { (rows.now ≡ numbers) × (known_layout m.layout ≡ true) }
+fn indexed(m: Module, part: &[u8]) -> Option<(Parameter, Part)>
+    requires { known_layout m.layout ≡ true }
     ensures { result ≡ indexed m (read_indices part.now) }
 {
     match read_indices(part) {
-        IndexPart::Right(groups) => named(rows, m, groups),
-        IndexPart::Wrong => ControlFound::Nothing,
+        Some(groups) => named(m, groups),
+        None => None,
     }
 }
 
 // What the bearer of a label and an index part name.
-fn sought_in(rows: &[[i32; 8]; 50], bearer: Bearer, part: &[u8]) -> ControlFound
-    requires { (rows.now ≡ numbers) × KnownBearer bearer }
+fn sought_in(bearer: Option<Module>, part: &[u8]) -> Option<(Parameter, Part)>
+    requires { KnownBearer bearer }
     ensures { result ≡ sought_in bearer (read_indices part.now) }
 {
-    match bearer {
-        Bearer::Only(m) => indexed(rows, m, part),
-        Bearer::NotOne => ControlFound::Nothing,
-    }
+    indexed(bearer?, part)
 }
 
 // The code where nothing is named; the label comes first.
-fn missing(bearer: Bearer) -> u8
+fn missing(bearer: Option<Module>) -> u8
     ensures { result ≡ missing bearer }
 {
     match bearer {
-        Bearer::Only(_) => 2,
-        Bearer::NotOne => 1,
+        Some(_) => 2,
+        None => 1,
     }
 }
 
@@ -71,63 +68,61 @@ fn put_meaning(table: &[u8], values: &[i64], p: Parameter, named: Part, text: &[
     let place = p.owner.first + p.number;
     let present = values[place];
     match read_value(p.row, named, present, text) {
-        ValueText::Value(x) => Meaning::Put(p, x),
-        ValueText::Wrong => Meaning::Code(3),
+        Some(x) => Meaning::Put(p, x),
+        None => Meaning::Code(3),
     }
 }
 
 // A get line, from the bearer of its label and the place of its closing quote.
-fn get_line(rows: &[[i32; 8]; 50], line: &[u8], bearer: Bearer, close: usize) -> Meaning
-    requires { (rows.now ≡ numbers) × KnownBearer bearer × (close < length line.now) }
+fn get_line(line: &[u8], bearer: Option<Module>, close: usize) -> Meaning
+    requires { KnownBearer bearer × (close < length line.now) }
     ensures { result ≡ get_of (in_room bearer (read_indices (part line.now (close + 1) (length line.now)))) }
 {
-    match sought_in(rows, bearer, &line[close + 1..]) {
-        ControlFound::At(p, named) => Meaning::Get(p, named),
-        ControlFound::Nothing => Meaning::Code(missing(bearer)),
+    match sought_in(bearer, &line[close + 1..]) {
+        Some((p, named)) => Meaning::Get(p, named),
+        None => Meaning::Code(missing(bearer)),
     }
 }
 
 // A set line, from the bearer of its label and the places of its closing quote and its `=`.
 fn set_line(
     table: &[u8],
-    rows: &[[i32; 8]; 50],
     values: &[i64],
     line: &[u8],
-    bearer: Bearer,
+    bearer: Option<Module>,
     close: usize,
     equal: usize,
 ) -> Meaning
-    requires rows_value { (rows.now ≡ numbers) × Seated (room_of table.now) values.now bearer }
+    requires rows_value { Seated (room_of table.now) values.now bearer }
     requires close_lt_equal { (close < equal) × (equal < length line.now) }
     ensures { result ≡ set_of (room_of table.now) values.now (part line.now (equal + 1) (length line.now)) (in_room bearer (read_indices (part line.now (close + 1) equal))) }
 {
-    match sought_in(rows, bearer, &line[close + 1..equal]) {
-        ControlFound::At(p, named) => put_meaning(table, values, p, named, &line[equal + 1..]),
-        ControlFound::Nothing => Meaning::Code(missing(bearer)),
+    match sought_in(bearer, &line[close + 1..equal]) {
+        Some((p, named)) => put_meaning(table, values, p, named, &line[equal + 1..]),
+        None => Meaning::Code(missing(bearer)),
     }
 }
 
 // What a shaped line means, where the bearer of its label is known.
 pub(crate) fn meaning_of(
     table: &[u8],
-    rows: &[[i32; 8]; 50],
     values: &[i64],
     line: &[u8],
-    bearer: Bearer,
-    shape: Shape,
+    bearer: Option<Module>,
+    shape: Result<Shape, Malformed>,
 ) -> Meaning
-    requires { (rows.now ≡ numbers) × Seated (room_of table.now) values.now bearer × (shape ≡ syntax.shape line.now) }
+    requires { Seated (room_of table.now) values.now bearer × (shape ≡ syntax.shape line.now) }
     ensures { result ≡ of_shape (room_of table.now) values.now line.now bearer shape }
 {
     match shape {
-        Shape::Malformed(cause, place) => Meaning::Malformed(cause, place),
-        Shape::Get(_, close) => get_line(rows, line, bearer, close),
-        Shape::Set(_, close, equal) => set_line(table, rows, values, line, bearer, close, equal),
+        Err(Malformed { cause, place }) => Meaning::Malformed(cause, place),
+        Ok(Shape::Get(_, close)) => get_line(line, bearer, close),
+        Ok(Shape::Set(_, close, equal)) => set_line(table, values, line, bearer, close, equal),
     }
 }
 
 // The module that alone bears what stands between two quotes.
-fn quoted_bearer(table: &[u8], line: &[u8], quote: usize, close: usize) -> Bearer
+fn quoted_bearer(table: &[u8], line: &[u8], quote: usize, close: usize) -> Option<Module>
     requires table_value { sound table.now ≡ true }
     requires quote_lt_close { (quote < close) × (close < length line.now) }
     ensures { result ≡ bearer table.now (part line.now (quote + 1) close) }
@@ -136,13 +131,17 @@ fn quoted_bearer(table: &[u8], line: &[u8], quote: usize, close: usize) -> Beare
 }
 
 // The module that alone bears the label of a shaped line.
-pub(crate) fn bearer_of(table: &[u8], line: &[u8], shape: Shape) -> Bearer
+pub(crate) fn bearer_of(
+    table: &[u8],
+    line: &[u8],
+    shape: Result<Shape, Malformed>,
+) -> Option<Module>
     requires { (sound table.now ≡ true) × (shape ≡ syntax.shape line.now) }
     ensures { result ≡ bearer_of table.now line.now shape }
 {
     match shape {
-        Shape::Malformed(_, _) => Bearer::NotOne,
-        Shape::Get(quote, close) => quoted_bearer(table, line, quote, close),
-        Shape::Set(quote, close, _) => quoted_bearer(table, line, quote, close),
+        Err(_) => None,
+        Ok(Shape::Get(quote, close)) => quoted_bearer(table, line, quote, close),
+        Ok(Shape::Set(quote, close, _)) => quoted_bearer(table, line, quote, close),
     }
 }

@@ -13,8 +13,8 @@ pub fn log_label<'a>(table: &'a [u8], line: &'a [u8]) -> &'a [u8]
     ensures { placed result ≡ log_label table.entry line.entry }
 {
     match log_part(table, line) {
-        LogPart::Table(start, end) => &table[start..end],
-        LogPart::Line(start, end) => &line[start..end],
-        LogPart::Nothing => &line[..0],
+        Some(LogPart::Table(start, end)) => &table[start..end],
+        Some(LogPart::Line(start, end)) => &line[start..end],
+        None => &line[..0],
     }
 }

@@ -5,16 +5,15 @@ ghost use Rattle.room.specs.Label.{bearer};
 ghost use Rattle.room.specs.Table.{sound};
 ghost use Rattle.line_log.specs.LogPart.{log_part, shown};
 
-use room::label::{Bearer, find_bearer};
+use room::label::find_bearer;
 use room::table::is_sound;
 use text::cut::find;
 
-// A part of the table or of the line, from a start to an end, or the empty part at the line's start.
+// A part of the table or of the line, from a start to an end.
 #[derive(Clone, Copy)]
 pub enum LogPart {
     Table(usize, usize),
     Line(usize, usize),
-    Nothing,
 }
 
 // Which part shows the text from a start to an end of the line.
@@ -24,29 +23,29 @@ fn part_shown(table: &[u8], line: &[u8], start: usize, end: usize) -> LogPart
     ensures { result ≡ shown start end (bearer table.now (part line.now start end)) }
 {
     match find_bearer(table, &line[start..end]) {
-        Bearer::Only(m) => {
+        Some(m) => {
             let label = m.place + 1;
             LogPart::Table(label, label + (end - start))
         }
-        Bearer::NotOne => LogPart::Line(start, end),
+        None => LogPart::Line(start, end),
     }
 }
 
-// Which part of the table or of the line shows the label that a line means.
-pub fn log_part(table: &[u8], line: &[u8]) -> LogPart
+// Which part of the table or of the line shows the label that a line means: none where the table is not sound or the line has fewer than two quotes.
+pub fn log_part(table: &[u8], line: &[u8]) -> Option<LogPart>
     ensures { result ≡ log_part table.now line.now }
 {
     if !is_sound(table) {
-        return LogPart::Nothing;
+        return None;
     }
     let first = find(line, b'"');
     if line.len() <= first {
-        return LogPart::Nothing;
+        return None;
     }
     let start = first + 1;
     let end = start + find(&line[start..], b'"');
     if line.len() <= end {
-        return LogPart::Nothing;
+        return None;
     }
-    part_shown(table, line, start, end)
+    Some(part_shown(table, line, start, end))
 }

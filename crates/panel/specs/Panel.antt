@@ -4,33 +4,32 @@ pub mod Calling
 pub mod Changing
 pub mod Exactly
 pub mod Laws
-use Rattle.std.specs.Prelude.{◌≡◌, Bool, cond, not, ◌&&◌, List, [], ◌∷◌, ℕ, zero, suc, eqb, ℤ, pos, length, get_or, set}
+use Rattle.std.specs.Prelude.{◌≡◌, Bool, cond, not, ◌&&◌, List, [], ◌∷◌, ℕ, zero, suc, eqb, ℤ, pos, length, get_or, set, Result, Option, Some, None}
+use Rattle.std.specs.Result.{result_unwrap_or}
 use Rattle.std.proofs.lemmas.List.Edits.{sets}
 use Rattle.catalogue.specs.Row.{permitted}
 use Rattle.catalogue.specs.declared.groups.Part.TheVariants.{Whole}
 use Rattle.catalogue.specs.declared.row.Row.{Row}
 use Rattle.room.specs.Label.{label}
-use Rattle.room.specs.Refusal.{first_refusal}
+use Rattle.room.specs.Refusal.{first_refusal, number_of}
 use Rattle.room.specs.Table.{table_number}
+use Rattle.room.specs.declared.refusal.Refusal.{Refusal}
 use Rattle.room.specs.declared.table.Module.{Module}
 use Rattle.values.specs.Parameters.{by_row, place}
 use Rattle.values.specs.Room.{Room, row_in}
 use Rattle.values.specs.Values.{equal, values_number}
 use Rattle.values.specs.declared.parameter.Parameter.{Parameter}
-use Rattle.values.specs.declared.parameter.ParameterFound.{ParameterFound}
-use Rattle.values.specs.declared.parameter.ParameterFound.TheVariants.{At, Nothing}
 use Rattle.spelling.specs.Reply.{get_reply}
 use Rattle.serial_port.specs.Refusal.{reply_limit, reply_number}
-use Rattle.panel.specs.declared.Changed.{Changed}
 
 -- 9 the row is read-only, or does not permit the value
 unfoldable pub row_number : Row → ℤ → ℕ
 row_number row x = cond (row.settable && permitted row x) 0 9
 
 -- 9 no module has the number, it has no such row, or the row by which the room judges the value is read-only or does not permit it
-unfoldable pub change_number : Room → ParameterFound → ℤ → ℕ
-change_number r (At p) x = row_number (row_in r p) x
-change_number r Nothing x = 9
+unfoldable pub change_number : Room → Option Parameter → ℤ → ℕ
+change_number r (Some p) x = row_number (row_in r p) x
+change_number r None x = 9
 
 -- the first that applies in the call's order, 0 where none does: 1 the table is not sound, 2 the values are wrong, 3 the reply buffer has under 64 bytes, then 9
 unfoldable pub panel_number : Room → List ℤ → (reply_room owner row : ℕ) → ℤ → ℕ
@@ -64,14 +63,23 @@ changed t vs buffer p x =
     record { number = 0; sent = length told; values = set vs (place p) x; buffer = sets buffer 0 told }
 
 -- by the number, and by the parameter, which is found where the number is 0
-unfoldable pub tell : (table : List ℕ) → (number : ℕ) → List ℤ → (buffer : List ℕ) → ParameterFound → ℤ → Told
-tell t zero vs buffer (At p) x = changed t vs buffer p x
-tell t zero vs buffer Nothing x = refused 0 vs buffer
+unfoldable pub tell : (table : List ℕ) → (number : ℕ) → List ℤ → (buffer : List ℕ) → Option Parameter → ℤ → Told
+tell t zero vs buffer (Some p) x = changed t vs buffer p x
+tell t zero vs buffer None x = refused 0 vs buffer
 tell t (suc n) vs buffer f x = refused (suc n) vs buffer
 
 -- the whole call: in the room r with the values vs, the row with the number `row` of the module with the number `owner`, both counted from 0, is changed to x
 unfoldable pub panel : Room → List ℤ → (buffer : List ℕ) → (owner row : ℕ) → ℤ → Told
 panel r vs buffer owner row x = tell r.table (panel_number r vs (length buffer) owner row x) vs buffer (by_row r.table owner row) x
+
+-- an answer: how many bytes the notice has, and the number of a refusal or 0
+pub record Changed : Type 0 where
+  pub sent : ℕ
+  pub number : ℕ
+
+-- a result as an answer: a refusal counts zero
+abbrev pub change_of : Result ℕ Refusal → Changed
+change_of r = record { sent = result_unwrap_or r 0; number = number_of r }
 
 -- what the answer c tells, with the values and the reply buffer as they are afterwards
 unfoldable pub tells : Changed → List ℤ → (buffer : List ℕ) → Told

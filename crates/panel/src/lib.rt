@@ -3,47 +3,42 @@
 
 ghost use Rattle.std.specs.Prelude.{true, ◌≡◌, ◌+◌, ◌<◌, ◌≤◌, pos, get_or, length, set};
 ghost use Rattle.text.specs.Written.{Wrote};
+ghost use Rattle.room.specs.Refusal.{number_of};
 ghost use Rattle.values.specs.Parameters.{place};
 ghost use Rattle.values.specs.Room.{room_of};
-ghost use Rattle.panel.specs.Panel.{Changes, notice};
+ghost use Rattle.panel.specs.Panel.{Changes, change_of, notice};
 ghost use Rattle.panel.specs.Panel.Calling.{ChangesFound, FoundIn};
 ghost use Rattle.panel.specs.Panel.Changing.{FoundFits, Tellable, own_number};
 
 use catalogue::groups::Part;
 use catalogue::row::permits;
-use catalogue::table::all_rows;
+use room::refusal::Refusal;
 use room::table::check;
-use serial_port::refusal::{REPLY, reply_number};
+use serial_port::refusal::{REPLY, check_reply};
 use spelling::reply::put_get;
 use values::by_row::by_row;
-use values::parameter::{Parameter, ParameterFound};
-use values::values_number;
+use values::check_values;
+use values::parameter::Parameter;
 
-// How many bytes the notice has, and the number of a refusal or 0.
-#[derive(Clone, Copy)]
-pub struct Changed {
-    pub sent: usize,
-    pub number: u8,
-}
-
-// 9 where there is no parameter, or it may not be changed to the value, or 0.
-fn change_number(found: ParameterFound, value: i64) -> u8
+// Refuses a change where there is no parameter, or it may not be changed to the value.
+#[tactic(auto, using(crate::specs::Panel::Changing::numbering))]
+fn check_change(found: Option<Parameter>, value: i64) -> Result<(), Refusal>
     requires { FoundFits found }
-    ensures { result ≡ own_number found value }
+    ensures { number_of result ≡ own_number found value }
 {
     match found {
-        ParameterFound::At(p) => {
+        Some(p) => {
             let row = p.row;
             let settable = row.settable;
             if !settable {
-                return 9;
+                return Err(Refusal::NoSuchChange);
             }
             if permits(row, value) {
-                return 0;
+                return Ok(());
             }
-            9
+            Err(Refusal::NoSuchChange)
         }
-        ParameterFound::Nothing => 9,
+        None => Err(Refusal::NoSuchChange),
     }
 }
 
@@ -75,44 +70,30 @@ fn notify(table: &[u8], p: Parameter, before: i64, value: i64, reply: &mut [u8])
     put_get(table, p, Part::Whole, value, reply)
 }
 
-// A change of the parameter that was found: refused with 3 or 9, or made and told.
+// A change of the parameter that was found: refused with 3 or 9, or made and told. Returns how many bytes the notice has.
+#[tactic(auto, using(crate::specs::Panel::Calling::changing))]
 fn change_found(
     table: &[u8],
     values: &mut [i64],
-    found: ParameterFound,
+    found: Option<Parameter>,
     value: i64,
     reply: &mut [u8],
-) -> Changed
+) -> Result<usize, Refusal>
     requires { FoundIn table.now values.old found }
-    ensures { ChangesFound (room_of table.now) values.old reply.old found value result values.new reply.new }
+    ensures { ChangesFound (room_of table.now) values.old reply.old found value (change_of result) values.new reply.new }
 {
-    let of_reply = reply_number(REPLY, reply.len());
-    if of_reply != 0 {
-        return Changed {
-            sent: 0,
-            number: of_reply,
-        };
-    }
-    let of_change = change_number(found, value);
-    if of_change != 0 {
-        return Changed {
-            sent: 0,
-            number: of_change,
-        };
-    }
-    match found {
-        ParameterFound::At(p) => {
-            let before = store(values, p, value);
-            Changed {
-                sent: notify(table, p, before, value, reply),
-                number: 0,
-            }
-        }
-        ParameterFound::Nothing => Changed { sent: 0, number: 9 },
-    }
+    check_reply(REPLY, reply.len())?;
+    check_change(found, value)?;
+    let Some(p) = found else {
+        return Err(Refusal::NoSuchChange);
+    };
+    let before = store(values, p, value);
+    Ok(notify(table, p, before, value, reply))
 }
 
 // Changes one value, by the numbers of its module and of its row, both counted from 0: refused with the first number that applies in its order, or made and told.
+// Returns how many bytes the notice has.
+#[tactic(auto, using(crate::specs::Panel::Calling::calling))]
 pub fn change(
     table: &[u8],
     values: &mut [i64],
@@ -120,24 +101,11 @@ pub fn change(
     row: usize,
     value: i64,
     reply: &mut [u8],
-) -> Changed
-    ensures { Changes (room_of table.now) values.old reply.old owner row value result values.new reply.new }
+) -> Result<usize, Refusal>
+    ensures { Changes (room_of table.now) values.old reply.old owner row value (change_of result) values.new reply.new }
 {
-    let of_table = check(table);
-    if of_table != 0 {
-        return Changed {
-            sent: 0,
-            number: of_table,
-        };
-    }
-    let rows = all_rows();
-    let of_values = values_number(table, &rows, values);
-    if of_values != 0 {
-        return Changed {
-            sent: 0,
-            number: of_values,
-        };
-    }
-    let found = by_row(table, &rows, owner, row);
+    check(table)?;
+    check_values(table, values)?;
+    let found = by_row(table, owner, row);
     change_found(table, values, found, value, reply)
 }

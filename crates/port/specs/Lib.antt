@@ -1,3 +1,2 @@
 -- The definitions of port.
 pub mod Input
-pub mod Table

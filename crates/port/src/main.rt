@@ -4,31 +4,30 @@
 mod bytes;
 mod input;
 mod standard_input;
-mod table;
 
 use crate::input::serve_input;
-use crate::standard_input::write_whole;
-use crate::table::{read_file, table_buffer};
 use room::table::is_sound;
 use std::io::Write;
+use streams::reading::read_file;
+use streams::writing::write_whole;
 
 // How many bytes a table may have.
 const TABLE: usize = 2240;
 
 fn refuse(writer: &mut impl Write) {
-    write_whole(writer, b"refused 1\r");
+    let _ = write_whole(writer, b"refused 1\r");
 }
 
 fn main(rt: HostRuntime) {
     let mut reader = rt.stdin();
     let mut writer = rt.stdout();
-    let mut space = table_buffer();
-    let length = read_file(&rt, b"table", &mut space);
-    if TABLE < length {
+    // One byte more than the longest table has, by which a longer one is seen.
+    let mut space = [0; 2241];
+    let Ok(length) = read_file(&rt, b"table", &mut space) else {
         refuse(&mut writer);
         return;
-    }
-    if !is_sound(&space[..length]) {
+    };
+    if TABLE < length || !is_sound(&space[..length]) {
         refuse(&mut writer);
         return;
     }

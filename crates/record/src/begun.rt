@@ -7,13 +7,11 @@ use crate::field::field_sound;
 use catalogue::is_fixed;
 
 // Whether a mixer may have so many inputs, or outputs.
+#[tactic(auto, using(crate::specs::Body::Rules::sizes))]
 fn size_right(n: u8) -> bool
     ensures { result ≡ size_right n }
 {
-    if n < 1 {
-        return false;
-    }
-    n <= 32
+    1 <= n && n <= 32
 }
 
 // How long a mixer's body is that begins some bytes, where its size is sound, else 0.

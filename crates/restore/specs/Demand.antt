@@ -14,7 +14,7 @@ use Rattle.serial_port.specs.Refusal.{reply_limit}
 use Rattle.serial_port.specs.Play.{play}
 use Rattle.wish.specs.Target.{Wish, target, differing}
 use Rattle.wish.specs.Listing.{Admitted, Size, Told, restore, size}
-use Rattle.restore.specs.declared.Restored.{Restored}
+use Rattle.restore.specs.Restored.{Restored}
 
 -- played with a reply buffer of `reply_rooms n` bytes for call n, it leaves chosen modules as wanted and every other parameter as it was. Nothing else writes the values while it is
 -- played: the list is for a room where no knob of a wall panel turns meanwhile

@@ -1,6 +1,5 @@
 // Writing the restore list: the lines one behind the other, each into what is left of the buffer.
 ghost use Rattle.std.specs.Prelude.{◌≡◌, ◌+◌, ◌≤◌, length};
-ghost use Rattle.catalogue.specs.Catalogue.{numbers};
 ghost use Rattle.text.specs.Written.{Wrote};
 ghost use Rattle.wish.specs.Listing.{listing};
 ghost use Rattle.restore_list.specs.Measuring.{Matching, Standing, all_changes, module_changes};
@@ -8,15 +7,13 @@ ghost use Rattle.restore_list.specs.Measuring.{Matching, Standing, all_changes, 
 use crate::listed_writing::write_listed;
 use crate::module_writing::write_rows;
 use catalogue::{is_fixed, row_count};
-use record::body::body_length;
-use record::layout::layout_at;
 use room::label::label_length;
+use room::modules::modules_of;
 use room::table::Module;
 
 // The lines of a module, where it is chosen: most modules are no mixers, and their lines say whole values.
 fn write_module(
     table: &[u8],
-    rows: &[[i32; 8]; 50],
     m: Module,
     present: &[i64],
     selection: &[u8],
@@ -24,7 +21,7 @@ fn write_module(
     list: &mut [u8],
     at: usize,
 ) -> usize
-    requires rows_value { (rows.now ≡ numbers) × Standing table.now present.now selection.now wanted.now m }
+    requires rows_value { Standing table.now present.now selection.now wanted.now m }
     requires wanted_in_bounds { at + length (listing table.now (module_changes selection.now m present.now wanted.now)) ≤ length list.old }
     ensures { Wrote list.old at (listing table.now (module_changes selection.now m present.now wanted.now)) result list.new }
 {
@@ -39,7 +36,6 @@ fn write_module(
     if is_fixed(layout.kind) {
         return write_listed(
             table,
-            rows,
             m,
             size,
             &present[first..end],
@@ -50,7 +46,6 @@ fn write_module(
     }
     write_rows(
         table,
-        rows,
         m,
         size,
         &present[first..end],
@@ -63,32 +58,18 @@ fn write_module(
 // The whole list.
 pub fn write(
     table: &[u8],
-    rows: &[[i32; 8]; 50],
     present: &[i64],
     selection: &[u8],
     wanted: &[i64],
     list: &mut [u8],
 ) -> usize
-    requires rows_value { (rows.now ≡ numbers) × Matching table.now present.now selection.now wanted.now }
+    requires rows_value { Matching table.now present.now selection.now wanted.now }
     requires wanted_in_bounds { length (listing table.now (all_changes table.now present.now selection.now wanted.now)) ≤ length list.old }
     ensures { Wrote list.old 0 (listing table.now (all_changes table.now present.now selection.now wanted.now)) result list.new }
 {
-    let mut number = 0;
-    let mut place = 0;
-    let mut first = 0;
     let mut at = 0;
-    while place < table.len() {
-        let layout = layout_at(table, place);
-        let m = Module {
-            number,
-            place,
-            layout,
-            first,
-        };
-        at = write_module(table, rows, m, present, selection, wanted, list, at);
-        number += 1;
-        place = place + 1 + body_length(layout.kind);
-        first += row_count(layout);
+    for m in modules_of(table) {
+        at = write_module(table, m, present, selection, wanted, list, at);
     }
     at
 }

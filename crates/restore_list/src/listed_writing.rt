@@ -1,6 +1,6 @@
 // Writing the lines of the rows of a module that is no mixer, each into what is left of the buffer.
 ghost use Rattle.std.specs.Prelude.{true, [], ◌∷◌, ◌++◌, ◌≡◌, ◌+◌, ◌≤◌, length};
-ghost use Rattle.catalogue.specs.Catalogue.{fixed, known_layout, numbers, rows_of};
+ghost use Rattle.catalogue.specs.Catalogue.{fixed, known_layout, rows_of};
 ghost use Rattle.catalogue.specs.declared.groups.Part.TheVariants.{Whole};
 ghost use Rattle.room.specs.Label.{label};
 ghost use Rattle.spelling.specs.Line.{line_for};
@@ -8,7 +8,7 @@ ghost use Rattle.text.specs.Written.{Wrote};
 ghost use Rattle.wish.specs.Listing.{listing};
 ghost use Rattle.restore_list.specs.Measuring.{row_changes};
 
-use catalogue::lent_row::listed_row;
+use catalogue::listed::listed_row;
 use room::table::Module;
 use spelling::set_line::put_whole_line;
 use values::parameter::Parameter;
@@ -32,7 +32,6 @@ fn write_whole(
 // The lines of the rows of a module that is no mixer: each says a whole value.
 pub(crate) fn write_listed(
     table: &[u8],
-    rows: &[[i32; 8]; 50],
     m: Module,
     size: usize,
     present: &[i64],
@@ -40,26 +39,23 @@ pub(crate) fn write_listed(
     list: &mut [u8],
     start: usize,
 ) -> usize
-    requires rows_value { (rows.now ≡ numbers) × (known_layout m.layout ≡ true) × (fixed m.layout.kind ≡ true) × (m.place + 33 ≤ length table.now) × (size ≡ length (label table.now m)) }
+    requires rows_value { (known_layout m.layout ≡ true) × (fixed m.layout.kind ≡ true) × (m.place + 33 ≤ length table.now) × (size ≡ length (label table.now m)) }
     requires present_len { (length present.now ≡ length (rows_of m.layout)) × (length wanted.now ≡ length (rows_of m.layout)) }
     requires wanted_in_bounds { start + length (listing table.now (row_changes m present.now wanted.now)) ≤ length list.old }
     ensures { Wrote list.old start (listing table.now (row_changes m present.now wanted.now)) result list.new }
 {
     let layout = m.layout;
     let mut at = start;
-    let mut j = 0;
-    while j < present.len() {
-        let number = j;
+    for number in 0..present.len() {
         let from = present[number];
         let to = wanted[number];
-        j += 1;
         if from == to {
             continue;
         }
         let p = Parameter {
             owner: m,
             number,
-            row: listed_row(rows, layout, number),
+            row: listed_row(layout, number),
         };
         at = write_whole(table, p, size, to, list, at);
     }

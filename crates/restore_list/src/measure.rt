@@ -1,28 +1,25 @@
 // How long the restore list is, and whether every wanted change is within reach.
 ghost use Rattle.std.specs.Prelude.{◌≡◌, length};
-ghost use Rattle.catalogue.specs.Catalogue.{numbers};
 ghost use Rattle.room.specs.Label.{label};
 ghost use Rattle.restore_list.specs.Measuring.{Matching, Measures, MeasuresModule, Settles, Standing, all_changes, module_changes, row_changes, values_of};
 
 use crate::listed_measuring::listed_lines;
 use crate::module_measuring::{Measured, borne_once, row_lines};
 use catalogue::{is_fixed, row_count};
-use record::body::body_length;
-use record::layout::layout_at;
 use room::label::label_length;
+use room::modules::modules_of;
 use room::table::Module;
 
 // The changes of a module's rows, of the parts of the lists that are its own.
 fn module_lines(
     table: &[u8],
-    rows: &[[i32; 8]; 50],
     m: Module,
     size: usize,
     present: &[i64],
     selection: &[u8],
     wanted: &[i64],
 ) -> Measured
-    requires rows_value { (rows.now ≡ numbers) × Standing table.now present.now selection.now wanted.now m }
+    requires rows_value { Standing table.now present.now selection.now wanted.now m }
     requires size_value { size ≡ length (label table.now m) }
     ensures { Settles table.now (row_changes m (values_of m present.now) (values_of m wanted.now)) result }
 {
@@ -30,35 +27,20 @@ fn module_lines(
     let layout = m.layout;
     let end = first + row_count(layout);
     if is_fixed(layout.kind) {
-        return listed_lines(
-            table,
-            rows,
-            m,
-            size,
-            &present[first..end],
-            &wanted[first..end],
-        );
+        return listed_lines(table, m, size, &present[first..end], &wanted[first..end]);
     }
-    row_lines(
-        table,
-        rows,
-        m,
-        size,
-        &present[first..end],
-        &wanted[first..end],
-    )
+    row_lines(table, m, size, &present[first..end], &wanted[first..end])
 }
 
 // The changes of a module: beyond reach too where a row changes and the module does not alone bear its label.
 fn measure_module(
     table: &[u8],
-    rows: &[[i32; 8]; 50],
     m: Module,
     present: &[i64],
     selection: &[u8],
     wanted: &[i64],
 ) -> Measured
-    requires { (rows.now ≡ numbers) × Standing table.now present.now selection.now wanted.now m }
+    requires { Standing table.now present.now selection.now wanted.now m }
     ensures { MeasuresModule table.now (module_changes selection.now m present.now wanted.now) result }
 {
     let number = m.number;
@@ -66,7 +48,7 @@ fn measure_module(
         return Measured::Within(0, 0);
     }
     let size = label_length(table, m.place);
-    match module_lines(table, rows, m, size, present, selection, wanted) {
+    match module_lines(table, m, size, present, selection, wanted) {
         Measured::Beyond => Measured::Beyond,
         Measured::Within(bytes, lines) => {
             if lines == 0 {
@@ -81,39 +63,20 @@ fn measure_module(
 }
 
 // The whole list, measured before a byte of it is written.
-pub fn measure(
-    table: &[u8],
-    rows: &[[i32; 8]; 50],
-    present: &[i64],
-    selection: &[u8],
-    wanted: &[i64],
-) -> Measured
-    requires { (rows.now ≡ numbers) × Matching table.now present.now selection.now wanted.now }
+pub fn measure(table: &[u8], present: &[i64], selection: &[u8], wanted: &[i64]) -> Measured
+    requires { Matching table.now present.now selection.now wanted.now }
     ensures { Measures table.now (all_changes table.now present.now selection.now wanted.now) result }
 {
-    let mut number = 0;
-    let mut place = 0;
-    let mut first = 0;
     let mut bytes = 0;
     let mut lines = 0;
-    while place < table.len() {
-        let layout = layout_at(table, place);
-        let m = Module {
-            number,
-            place,
-            layout,
-            first,
-        };
-        match measure_module(table, rows, m, present, selection, wanted) {
+    for m in modules_of(table) {
+        match measure_module(table, m, present, selection, wanted) {
             Measured::Beyond => return Measured::Beyond,
             Measured::Within(b, l) => {
                 bytes += b;
                 lines += l;
             }
         }
-        number += 1;
-        place = place + 1 + body_length(layout.kind);
-        first += row_count(layout);
     }
     Measured::Within(bytes, lines)
 }

@@ -1,13 +1,13 @@
 // Writing the lines of a module's rows, each into what is left of the buffer.
 ghost use Rattle.std.specs.Prelude.{true, ◌≡◌, ◌+◌, ◌≤◌, length, [], ◌∷◌, ◌++◌};
-ghost use Rattle.catalogue.specs.Catalogue.{known_layout, numbers, rows_of};
+ghost use Rattle.catalogue.specs.Catalogue.{known_layout, rows_of};
 ghost use Rattle.room.specs.Label.{label};
 ghost use Rattle.wish.specs.Listing.{listing};
 ghost use Rattle.restore_list.specs.Measuring.{row_changes};
 ghost use Rattle.text.specs.Written.{Wrote};
 ghost use Rattle.spelling.specs.Say.{say};
 
-use catalogue::lent_row::row_of;
+use catalogue::listed::row_of;
 use room::table::Module;
 use spelling::set_line::put_say_line;
 use values::parameter::Parameter;
@@ -32,7 +32,6 @@ fn write_line(
 // The lines of a module's rows.
 pub(crate) fn write_rows(
     table: &[u8],
-    rows: &[[i32; 8]; 50],
     m: Module,
     size: usize,
     present: &[i64],
@@ -40,26 +39,23 @@ pub(crate) fn write_rows(
     list: &mut [u8],
     start: usize,
 ) -> usize
-    requires rows_value { (rows.now ≡ numbers) × (known_layout m.layout ≡ true) × (m.place + 33 ≤ length table.now) × (size ≡ length (label table.now m)) }
+    requires rows_value { (known_layout m.layout ≡ true) × (m.place + 33 ≤ length table.now) × (size ≡ length (label table.now m)) }
     requires present_len { (length present.now ≡ length (rows_of m.layout)) × (length wanted.now ≡ length (rows_of m.layout)) }
     requires wanted_in_bounds { start + length (listing table.now (row_changes m present.now wanted.now)) ≤ length list.old }
     ensures { Wrote list.old start (listing table.now (row_changes m present.now wanted.now)) result list.new }
 {
     let layout = m.layout;
     let mut at = start;
-    let mut j = 0;
-    while j < present.len() {
-        let number = j;
+    for number in 0..present.len() {
         let from = present[number];
         let to = wanted[number];
-        j += 1;
         if from == to {
             continue;
         }
         let p = Parameter {
             owner: m,
             number,
-            row: row_of(rows, layout, number),
+            row: row_of(layout, number),
         };
         at = write_line(table, p, size, from, to, list, at);
     }

@@ -3,12 +3,10 @@ pub mod Laws
 pub mod Length
 pub mod Match
 pub mod Sought
-use Rattle.std.specs.Prelude.{Bool, true, false, cond, ◌&&◌, List, [], ◌∷◌, ℕ, ◌+◌, eqb, take, drop}
+use Rattle.std.specs.Prelude.{Bool, true, false, cond, ◌&&◌, List, [], ◌∷◌, ℕ, ◌+◌, eqb, take, drop, Option, Some, None}
 use Rattle.text.specs.Cut.{before}
 use Rattle.room.specs.Table.{modules}
 use Rattle.room.specs.declared.table.Module.{Module}
-use Rattle.room.specs.declared.label.Bearer.{Bearer}
-use Rattle.room.specs.declared.label.Bearer.TheVariants.{Only, NotOne}
 
 -- a module's label: of its field, the bytes before the zero bytes
 unfoldable pub label : List ℕ → Module → List ℕ
@@ -27,11 +25,11 @@ bearers_in t text [] = []
 bearers_in t text (m ∷ ms) = cond (same (label t m) text) (m ∷ bearers_in t text ms) (bearers_in t text ms)
 
 -- exactly one module, or not exactly one
-unfoldable pub exactly_one : List Module → Bearer
-exactly_one [] = NotOne
-exactly_one (m ∷ []) = Only m
-exactly_one (m ∷ n ∷ ms) = NotOne
+unfoldable pub exactly_one : List Module → Option Module
+exactly_one [] = None
+exactly_one (m ∷ []) = Some m
+exactly_one (m ∷ n ∷ ms) = None
 
 -- the module of the table t that alone bears the text
-unfoldable pub bearer : List ℕ → List ℕ → Bearer
+unfoldable pub bearer : List ℕ → List ℕ → Option Module
 bearer t text = exactly_one (bearers_in t text (modules t))

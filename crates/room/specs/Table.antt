@@ -4,14 +4,13 @@ pub mod Modules
 pub mod Number
 pub mod Reached
 pub mod Short
+pub mod Steps
 pub mod Walk
-use Rattle.std.specs.Prelude.{Bool, true, false, cond, ◌&&◌, List, [], ◌∷◌, ℕ, zero, suc, ◌+◌, length, take, drop}
+use Rattle.std.specs.Prelude.{Bool, true, false, cond, ◌&&◌, List, [], ◌∷◌, ℕ, zero, suc, ◌+◌, length, take, drop, Option, Some, None}
 use Rattle.catalogue.specs.Catalogue.{rows_of}
 use Rattle.record.specs.Body.{body_length, body_sound}
 use Rattle.record.specs.Layout.{layout_of}
 use Rattle.room.specs.declared.table.Module.{Module}
-use Rattle.room.specs.declared.table.ModuleFound.{ModuleFound}
-use Rattle.room.specs.declared.table.ModuleFound.TheVariants.{At, Nothing}
 
 -- at most `left` records, and nothing else
 unfoldable pub records_sound : (left : ℕ) → List ℕ → Bool
@@ -46,7 +45,7 @@ unfoldable pub modules : List ℕ → List Module
 modules t = modules_from record_limit 0 0 0 t
 
 -- the module with a number
-unfoldable pub module_at : List Module → ℕ → ModuleFound
-module_at [] n = Nothing
-module_at (m ∷ ms) zero = At m
+unfoldable pub module_at : List Module → ℕ → Option Module
+module_at [] n = None
+module_at (m ∷ ms) zero = Some m
 module_at (m ∷ ms) (suc n) = module_at ms n

@@ -11,13 +11,6 @@ use record::field::label_right;
 use record::layout::layout_at;
 use text::cut::find;
 
-// The one module that bears a text, or that not exactly one does.
-#[derive(Clone, Copy)]
-pub enum Bearer {
-    Only(Module),
-    NotOne,
-}
-
 // How long the label of the record at a place is.
 pub fn label_length(table: &[u8], place: usize) -> usize
     requires { place + 33 ≤ length table.now }
@@ -27,14 +20,14 @@ pub fn label_length(table: &[u8], place: usize) -> usize
 }
 
 // The module that alone bears a text.
-pub fn find_bearer(table: &[u8], text: &[u8]) -> Bearer
+pub fn find_bearer(table: &[u8], text: &[u8]) -> Option<Module>
     requires { sound table.now ≡ true }
     ensures { result ≡ bearer table.now text.now }
 {
     if !label_right(text) {
-        return Bearer::NotOne;
+        return None;
     }
-    let mut found = Bearer::NotOne;
+    let mut found = None;
     let mut number = 0;
     let mut place = 0;
     let mut first = 0;
@@ -65,10 +58,10 @@ pub fn find_bearer(table: &[u8], text: &[u8]) -> Bearer
         if size < 32 && table[label + size] != 0 {
             continue 'records;
         }
-        if let Bearer::Only(_) = found {
-            break Bearer::NotOne;
+        if let Some(_) = found {
+            break None;
         }
-        found = Bearer::Only(Module {
+        found = Some(Module {
             number: own,
             place: here,
             layout,

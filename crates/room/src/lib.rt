@@ -2,4 +2,6 @@
 #![tactic(auto)]
 
 pub mod label;
+pub mod modules;
+pub mod refusal;
 pub mod table;

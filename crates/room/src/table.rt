@@ -1,12 +1,12 @@
 // The module table.
 ghost use Rattle.std.specs.Prelude.{true, ◌≡◌};
+ghost use Rattle.room.specs.Refusal.{number_of};
 ghost use Rattle.room.specs.Table.{module_at, modules, sound, table_number};
 
+use crate::modules::modules_of;
+use crate::refusal::Refusal;
 use catalogue::layout::Layout;
-use catalogue::row_count;
 use record::begun::sound_length;
-use record::body::body_length;
-use record::layout::layout_at;
 
 // How many records a table may have.
 pub const MODULES: usize = 64;
@@ -20,17 +20,11 @@ pub struct Module {
     pub first: usize,
 }
 
-// A module, or that no module has the number.
-#[derive(Clone, Copy)]
-pub enum ModuleFound {
-    At(Module),
-    Nothing,
-}
-
 // Whether a table is sound.
 pub fn is_sound(table: &[u8]) -> bool
     ensures { result ≡ sound table.now }
 {
+    // Not by `modules_of`, which requires a sound table.
     let mut place = 0;
     let mut left = MODULES;
     while place < table.len() {
@@ -49,37 +43,26 @@ pub fn is_sound(table: &[u8]) -> bool
     true
 }
 
-// The number that a call on the table alone tells: 0 for a sound table, and else its refusal's number.
-pub fn check(table: &[u8]) -> u8
-    ensures { result ≡ table_number table.now }
+// Refuses a table that is not sound.
+#[tactic(auto, unfolding(crate::specs::Table::table_number))]
+pub fn check(table: &[u8]) -> Result<(), Refusal>
+    ensures { number_of result ≡ table_number table.now }
 {
     if is_sound(table) {
-        return 0;
+        return Ok(());
     }
-    1
+    Err(Refusal::Table)
 }
 
 // The module with a number.
-pub fn module_at(table: &[u8], number: usize) -> ModuleFound
+pub fn module_at(table: &[u8], number: usize) -> Option<Module>
     requires { sound table.now ≡ true }
     ensures { result ≡ module_at (modules table.now) number }
 {
-    let mut at = 0;
-    let mut place = 0;
-    let mut first = 0;
-    while place < table.len() {
-        if at == number {
-            let layout = layout_at(table, place);
-            return ModuleFound::At(Module {
-                number,
-                place,
-                layout,
-                first,
-            });
+    for m in modules_of(table) {
+        if m.number == number {
+            return Some(m);
         }
-        at += 1;
-        first += row_count(layout_at(table, place));
-        place = place + 1 + body_length(table[place]);
     }
-    ModuleFound::Nothing
+    None
 }

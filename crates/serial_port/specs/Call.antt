@@ -7,12 +7,11 @@ pub mod OneLine
 pub mod Rules
 pub mod Serving
 pub mod Telling
-use Rattle.std.specs.Prelude.{◌≡◌, cond, List, [], ℕ, zero, suc, ◌≤◌, ℤ, length}
+use Rattle.std.specs.Prelude.{◌≡◌, cond, List, [], ℕ, zero, suc, ◌≤◌, ℤ, length, None, Option}
 use Rattle.std.proofs.lemmas.List.Edits.{sets}
 use Rattle.values.specs.Room.{Room}
 use Rattle.syntax.specs.Shape.{line_limit}
-use Rattle.line.specs.declared.fault.Fault.{Fault}
-use Rattle.line.specs.declared.fault.Fault.TheVariants.{Nothing}
+use Rattle.syntax.specs.declared.cause.Malformed.{Malformed}
 use Rattle.serial_port.specs.Server.{Reply, Server, control_space}
 use Rattle.serial_port.specs.Refusal.{call_number}
 use Rattle.serial_port.specs.Port.{View, held, over, view, fresh, Gather, gather}
@@ -24,7 +23,7 @@ pub record Step (S : Type 0) : Type 0 where
   pub port : View
   pub consumed : ℕ
   pub reply : List ℕ
-  pub fault : Fault
+  pub fault : Option Malformed
   pub state : S
 
 -- the one reply to a finished line
@@ -38,7 +37,7 @@ replied consumed a = record { port = fresh; consumed = consumed; reply = a.reply
 
 -- without 0D there is no reply, and no fault
 unfoldable pub waiting : {S : Type 0} → S → (consumed : ℕ) → View → Step S
-waiting s consumed v = record { port = v; consumed = consumed; reply = []; fault = Nothing; state = s }
+waiting s consumed v = record { port = v; consumed = consumed; reply = []; fault = None; state = s }
 
 -- what was gathered is served where it is a finished line, and held where it is not
 unfoldable pub served : {S : Type 0} → Server S → S → Gather → Step S
@@ -53,7 +52,7 @@ pub record Told (S : Type 0) : Type 0 where
   pub number : ℕ
   pub consumed : ℕ
   pub sent : ℕ
-  pub fault : Fault
+  pub fault : Option Malformed
   pub state : S
   pub buffer : List ℕ
 
@@ -61,7 +60,7 @@ pub record Told (S : Type 0) : Type 0 where
 unfoldable pub tell : {S : Type 0} → (number : ℕ) → S → (buffer : List ℕ) → Step S → Told S
 tell zero s buffer x =
     record { number = 0; consumed = x.consumed; sent = length x.reply; fault = x.fault; state = x.state; buffer = sets buffer 0 x.reply }
-tell (suc n) s buffer x = record { number = suc n; consumed = 0; sent = 0; fault = Nothing; state = s; buffer = buffer }
+tell (suc n) s buffer x = record { number = suc n; consumed = 0; sent = 0; fault = None; state = s; buffer = buffer }
 
 -- the port q that a call hands back: the given one on a refusal, else one that is seen as v and claims at most 64 bytes. Left open, as the rules leave it, are the held bytes
 -- of a port that has overrun, and what is stored past the held bytes

@@ -1,6 +1,5 @@
 // The port: it collects bytes into lines, and answers each line once.
 ghost use Rattle.std.specs.Prelude.{true, [], ◌∷◌, ◌≡◌, ◌≤◌, length};
-ghost use Rattle.catalogue.specs.Catalogue.{numbers};
 ghost use Rattle.room.specs.Table.{record_limit, sound};
 ghost use Rattle.syntax.specs.Shape.{line_limit};
 ghost use Rattle.values.specs.Room.{room_of};
@@ -13,12 +12,10 @@ ghost use Rattle.serial_port.specs.Refusal.{reply_limit};
 ghost use Rattle.serial_port.specs.Server.{control_space};
 ghost use Rattle.serial_port.specs.Port.Collecting.{Collects};
 
-use crate::refusal::{call_number, claim_number};
-use catalogue::table::all_rows;
+use crate::refusal::{check_call, check_claim};
 use line::answer::{Answered, answer_line};
-use line::fault::Fault;
 use spelling::acknowledgement::put_nak;
-use syntax::cause::Cause;
+use syntax::cause::{Cause, Malformed};
 use text::cut::find;
 use text::written::put_bytes;
 
@@ -44,7 +41,7 @@ pub struct Called {
     pub port: Port,
     pub consumed: usize,
     pub sent: usize,
-    pub fault: Fault,
+    pub fault: Option<Malformed>,
     pub number: u8,
 }
 
@@ -121,61 +118,57 @@ impl Port {
     }
 
     // Answers the line that was collected; an overrun one gets 99.
-    fn finish(
-        self,
-        table: &[u8],
-        rows: &[[i32; 8]; 50],
-        values: &mut [i64],
-        reply: &mut [u8],
-    ) -> Answered
-        requires table_value { (sound table.now ≡ true) × (rows.now ≡ numbers) × (values_sound (room_of table.now) values.old ≡ true) }
+    fn finish(self, table: &[u8], values: &mut [i64], reply: &mut [u8]) -> Answered
+        requires table_value { (sound table.now ≡ true) × (values_sound (room_of table.now) values.old ≡ true) }
         requires in_bounds { (64 ≤ length reply.old) × (self.len ≤ 64) }
         ensures { Finishes (control_space (room_of table.now)) values.old self reply.old result values.new reply.new }
     {
         if self.overrun {
             return Answered {
                 sent: put_nak(reply, 99),
-                fault: Fault::At(Cause::Overrun, 64),
+                fault: Some(Malformed {
+                    cause: Cause::Overrun,
+                    place: 64,
+                }),
             };
         }
         let len = self.len;
         let held = self.held;
-        answer_line(table, rows, values, &held[..len], reply)
+        answer_line(table, values, &held[..len], reply)
     }
 
     // A call to which no refusal applies: gathers the given bytes, and answers the line that they finish.
     pub(crate) fn serve(
         self,
         table: &[u8],
-        rows: &[[i32; 8]; 50],
         values: &mut [i64],
         given: &[u8],
         reply: &mut [u8],
     ) -> Called
-        requires table_value { (sound table.now ≡ true) × (rows.now ≡ numbers) × (values_sound (room_of table.now) values.old ≡ true) }
+        requires table_value { (sound table.now ≡ true) × (values_sound (room_of table.now) values.old ≡ true) }
         requires in_bounds { (64 ≤ length reply.old) × (self.len ≤ 64) }
         ensures { Answers (room_of table.now) values.old self given.now reply.old result values.new reply.new }
     {
         let gathered = self.gather(given);
         let port = gathered.port;
         if !gathered.finished {
-            let fault = Fault::Nothing;
+            let fault = None;
             return Called {
-                port: port,
+                port,
                 consumed: gathered.consumed,
                 sent: 0,
-                fault: fault,
+                fault,
                 number: 0,
             };
         }
-        let answered = port.finish(table, rows, values, reply);
+        let answered = port.finish(table, values, reply);
         let fault = answered.fault;
         let next = Port::fresh();
         Called {
             port: next,
             consumed: gathered.consumed,
             sent: answered.sent,
-            fault: fault,
+            fault,
             number: 0,
         }
     }
@@ -188,39 +181,37 @@ impl Port {
             port: self,
             consumed: 0,
             sent: 0,
-            fault: Fault::Nothing,
+            fault: None,
             number: number,
         }
     }
 
     // A call whose table, values and reply buffer were tested already: refused with 4 where the port claims too much, or served.
+    #[tactic(auto, using(crate::specs::Call::Serving::taking_tested))]
     pub fn take_tested(
         self,
         table: &[u8],
-        rows: &[[i32; 8]; 50],
         values: &mut [i64],
         given: &[u8],
         reply: &mut [u8],
     ) -> Called
-        requires { (sound table.now ≡ true) × (rows.now ≡ numbers) × (values_sound (room_of table.now) values.old ≡ true) × (64 ≤ length reply.old) }
+        requires { (sound table.now ≡ true) × (values_sound (room_of table.now) values.old ≡ true) × (64 ≤ length reply.old) }
         ensures { Answers (room_of table.now) values.old self given.now reply.old result values.new reply.new }
     {
-        let claim = claim_number(self.len);
-        if claim != 0 {
-            return self.refused(claim);
+        if let Err(refusal) = check_claim(self.len) {
+            return self.refused(refusal.into());
         }
-        self.serve(table, rows, values, given, reply)
+        self.serve(table, values, given, reply)
     }
 
     // A call: refused with the first number that applies in its order, or served.
+    #[tactic(auto, using(crate::specs::Call::Serving::taking))]
     pub fn take(self, table: &[u8], values: &mut [i64], given: &[u8], reply: &mut [u8]) -> Called
         ensures { Answers (room_of table.now) values.old self given.now reply.old result values.new reply.new }
     {
-        let rows = all_rows();
-        let number = call_number(table, &rows, values, reply.len(), self.len);
-        if number != 0 {
-            return self.refused(number);
+        if let Err(refusal) = check_call(table, values, reply.len(), self.len) {
+            return self.refused(refusal.into());
         }
-        self.serve(table, &rows, values, given, reply)
+        self.serve(table, values, given, reply)
     }
 }

@@ -1,59 +1,52 @@
-// Which number a port call is refused with.
+// Why a port call is refused.
 ghost use Rattle.std.specs.Prelude.{◌≡◌};
-ghost use Rattle.catalogue.specs.Catalogue.{numbers};
+ghost use Rattle.room.specs.Refusal.{number_of};
 ghost use Rattle.values.specs.Room.{room_of};
 ghost use Rattle.serial_port.specs.Refusal.{call_number, claim_number, reply_number};
 
+use room::refusal::Refusal;
 use room::table::check;
-use values::values_number;
+use values::check_values;
 
 // How many bytes a port may hold, and how many bytes a reply buffer must have.
 pub const HELD: usize = 64;
 
 pub const REPLY: usize = 64;
 
-// 3 where a reply buffer of `room` bytes has fewer than the least, or 0.
-pub fn reply_number(least: usize, room: usize) -> u8
-    ensures { result ≡ reply_number least room }
+// Refuses a reply buffer of `room` bytes that has fewer than the least.
+#[tactic(auto, using(crate::specs::Refusal::Number::numbering))]
+pub fn check_reply(least: usize, room: usize) -> Result<(), Refusal>
+    ensures { number_of result ≡ reply_number least room }
 {
     if room < least {
-        return 3;
+        return Err(Refusal::ReplyBuffer);
     }
-    0
+    Ok(())
 }
 
-// 4 where a port claims more bytes than it may hold, or 0.
-pub(crate) fn claim_number(claimed: usize) -> u8
-    ensures { result ≡ claim_number claimed }
+// Refuses a port that claims more bytes than it may hold.
+#[tactic(auto, using(crate::specs::Refusal::Number::numbering))]
+pub(crate) fn check_claim(claimed: usize) -> Result<(), Refusal>
+    ensures { number_of result ≡ claim_number claimed }
 {
     if claimed <= HELD {
-        return 0;
+        return Ok(());
     }
-    4
+    Err(Refusal::HeldBytes)
 }
 
-// The number that a call is refused with, the first in its order, and 0 where it is served: `room` bytes are there for the reply, and the port claims `claimed`.
-pub(crate) fn call_number(
+// Refuses a call for the first reason in its order: `room` bytes are there for the reply, and the port claims `claimed`.
+#[tactic(auto, using(crate::specs::Refusal::Telling::telling))]
+pub(crate) fn check_call(
     table: &[u8],
-    rows: &[[i32; 8]; 50],
     values: &[i64],
     room: usize,
     claimed: usize,
-) -> u8
-    requires { rows.now ≡ numbers }
-    ensures { result ≡ call_number (room_of table.now) values.now room claimed }
+) -> Result<(), Refusal>
+    ensures { number_of result ≡ call_number (room_of table.now) values.now room claimed }
 {
-    let of_table = check(table);
-    if of_table != 0 {
-        return of_table;
-    }
-    let of_values = values_number(table, rows, values);
-    if of_values != 0 {
-        return of_values;
-    }
-    let of_reply = reply_number(REPLY, room);
-    if of_reply != 0 {
-        return of_reply;
-    }
-    claim_number(claimed)
+    check(table)?;
+    check_values(table, values)?;
+    check_reply(REPLY, room)?;
+    check_claim(claimed)
 }

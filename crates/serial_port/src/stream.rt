@@ -1,6 +1,5 @@
 // Serving a stream of bytes: calls one after the other, and their replies one after the other.
 ghost use Rattle.std.specs.Prelude.{true, ◌≡◌, ◌≤◌};
-ghost use Rattle.catalogue.specs.Catalogue.{numbers};
 ghost use Rattle.room.specs.Table.{sound};
 ghost use Rattle.values.specs.Room.{room_of};
 ghost use Rattle.values.specs.Values.{values_sound};
@@ -19,19 +18,19 @@ pub struct Served {
 // Serves the given bytes until all are consumed or `out` has no room for another reply.
 pub fn serve_all(
     table: &[u8],
-    rows: &[[i32; 8]; 50],
     values: &mut [i64],
     port: Port,
     given: &[u8],
     out: &mut [u8],
 ) -> Served
-    requires table_value { (sound table.now ≡ true) × (rows.now ≡ numbers) × (values_sound (room_of table.now) values.old ≡ true) }
+    requires table_value { (sound table.now ≡ true) × (values_sound (room_of table.now) values.old ≡ true) }
     requires len_bound { port.len ≤ 64 }
     ensures { Serves (room_of table.now) values.old port given.now out.old result values.new out.new }
 {
     let mut port = port;
     let mut at = 0;
     let mut end = 0;
+    // A turn moves on by what its call consumes, which is no count of an iterator.
     while at < given.len() {
         if out.len() - end < Port::REPLY {
             return Served {
@@ -40,7 +39,7 @@ pub fn serve_all(
                 sent: end,
             };
         }
-        let called = port.serve(table, rows, values, &given[at..], &mut out[end..]);
+        let called = port.serve(table, values, &given[at..], &mut out[end..]);
         port = called.port;
         at += called.consumed;
         end += called.sent;

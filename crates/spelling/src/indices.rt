@@ -1,7 +1,6 @@
-// The index groups of a row's part as a line writes them, each after `>`: how long they are, and writing them.
+// The index groups of a row's part as a line writes them, each after `>`: their length, and writing them.
 ghost use Rattle.std.specs.Prelude.{◌≡◌, ◌+◌, ◌≤◌, length};
 ghost use Rattle.catalogue.specs.Groups.{groups_of};
-ghost use Rattle.catalogue.specs.declared.groups.Part.TheVariants.{Whole, Output};
 ghost use Rattle.text.specs.Written.{Wrote};
 ghost use Rattle.spelling.specs.IndexText.{index_text};
 ghost use Rattle.spelling.specs.IndexText.Writing.{arrow_text, cross_text, ended_text, pair_text};
@@ -12,23 +11,15 @@ use text::number::{number_length, put_number};
 use text::written::{put_byte, put_bytes};
 
 // How long a number after `>` is.
+#[tactic(auto, using(crate::specs::IndexText::Length::group_lengths))]
 fn group_length(n: u64) -> usize
     ensures { (result ≡ length (arrow_text n)) × (result ≤ 21) }
 {
     1 + number_length(n)
 }
 
-// How long the indices of a row are.
-fn row_length(indices: Indices) -> usize
-    ensures { (result ≡ length (index_text (groups_of indices Whole))) × (result ≤ 46) }
-{
-    match indices {
-        Indices::OneGroup(a) => group_length(a),
-        Indices::TwoGroups(a, b) => group_length(a) + group_length(b),
-    }
-}
-
 // How long 4 and a pair of numbers are.
+#[tactic(auto, using(crate::specs::IndexText::Length::cross_lengths))]
 fn cross_length(input: u64, output: u64) -> usize
     ensures { (result ≡ length (cross_text input output)) × (result ≤ 46) }
 {
@@ -36,15 +27,15 @@ fn cross_length(input: u64, output: u64) -> usize
 }
 
 // How long the index groups of a part are.
+#[tactic(auto, using(crate::specs::IndexText::Length::index_lengths))]
 pub(crate) fn index_length(indices: Indices, part: Part) -> usize
     ensures { (result ≡ length (index_text (groups_of indices part))) × (result ≤ 46) }
 {
-    match part {
-        Part::Whole => row_length(indices),
-        Part::Output(o) => match indices {
-            Indices::OneGroup(a) => cross_length(a, o),
-            Indices::TwoGroups(_, b) => cross_length(b, o),
-        },
+    match (part, indices) {
+        (Part::Whole, Indices::OneGroup(a)) => group_length(a),
+        (Part::Whole, Indices::TwoGroups(a, b)) => group_length(a) + group_length(b),
+        (Part::Output(o), Indices::OneGroup(a)) => cross_length(a, o),
+        (Part::Output(o), Indices::TwoGroups(_, b)) => cross_length(b, o),
     }
 }
 
@@ -57,21 +48,7 @@ fn put_group(buffer: &mut [u8], at: usize, n: u64) -> usize
     put_number(buffer, next, n)
 }
 
-// The indices of a row.
-pub(crate) fn put_row(buffer: &mut [u8], at: usize, indices: Indices) -> usize
-    requires { at + length (index_text (groups_of indices Whole)) ≤ length buffer.old }
-    ensures { Wrote buffer.old at (index_text (groups_of indices Whole)) result buffer.new }
-{
-    match indices {
-        Indices::OneGroup(a) => put_group(buffer, at, a),
-        Indices::TwoGroups(a, b) => {
-            let next = put_group(buffer, at, a);
-            put_group(buffer, next, b)
-        }
-    }
-}
-
-// A number and a byte behind it.
+// A number and a byte after it.
 fn put_ended(buffer: &mut [u8], at: usize, n: u64, end: u8) -> usize
     requires { at + length (ended_text n end) ≤ length buffer.old }
     ensures { Wrote buffer.old at (ended_text n end) result buffer.new }
@@ -100,13 +77,18 @@ fn put_cross(buffer: &mut [u8], at: usize, input: u64, output: u64) -> usize
     put_pair(buffer, next, input, output)
 }
 
-// The index groups of an output of a routing word.
-pub(crate) fn put_output(buffer: &mut [u8], at: usize, indices: Indices, output: u64) -> usize
-    requires { at + length (index_text (groups_of indices (Output output))) ≤ length buffer.old }
-    ensures { Wrote buffer.old at (index_text (groups_of indices (Output output))) result buffer.new }
+// The index groups of a part.
+pub(crate) fn put_indices(buffer: &mut [u8], at: usize, indices: Indices, part: Part) -> usize
+    requires { at + length (index_text (groups_of indices part)) ≤ length buffer.old }
+    ensures { Wrote buffer.old at (index_text (groups_of indices part)) result buffer.new }
 {
-    match indices {
-        Indices::OneGroup(a) => put_cross(buffer, at, a, output),
-        Indices::TwoGroups(_, b) => put_cross(buffer, at, b, output),
+    match (part, indices) {
+        (Part::Whole, Indices::OneGroup(a)) => put_group(buffer, at, a),
+        (Part::Whole, Indices::TwoGroups(a, b)) => {
+            let next = put_group(buffer, at, a);
+            put_group(buffer, next, b)
+        }
+        (Part::Output(o), Indices::OneGroup(a)) => put_cross(buffer, at, a, o),
+        (Part::Output(o), Indices::TwoGroups(_, b)) => put_cross(buffer, at, b, o),
     }
 }

@@ -4,7 +4,7 @@ ghost use Rattle.catalogue.specs.Groups.{PartIn};
 ghost use Rattle.text.specs.Written.{Wrote};
 ghost use Rattle.spelling.specs.Reply.{get_reply};
 
-use crate::line::{put_line, put_whole};
+use crate::name::Named;
 use catalogue::groups::Part;
 use room::label::label_length;
 use values::parameter::Parameter;
@@ -16,10 +16,11 @@ pub fn put_get(table: &[u8], p: Parameter, part: Part, v: i64, reply: &mut [u8])
     requires v_in_bounds { length (get_reply table.now p part v) ≤ length reply.old }
     ensures { Wrote reply.old 0 (get_reply table.now p part v) result reply.new }
 {
-    let owner = p.owner;
-    let size = label_length(table, owner.place);
-    match part {
-        Part::Whole => put_whole(table, p, size, b'G', v, reply),
-        Part::Output(_) => put_line(table, p, part, size, b'G', v, reply),
-    }
+    let size = label_length(table, p.owner.place);
+    let named = Named {
+        table,
+        parameter: p,
+        size,
+    };
+    named.put_line(part, b'G', v, reply)
 }

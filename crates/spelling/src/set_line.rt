@@ -6,8 +6,7 @@ ghost use Rattle.spelling.specs.Line.{line_for};
 ghost use Rattle.room.specs.Label.{label};
 ghost use Rattle.spelling.specs.Say.{output_or, said_part, say};
 
-use crate::line::{put_line, put_whole};
-use crate::name::name_length;
+use crate::name::{Named, name_length};
 use crate::value::{part_length, text_length};
 use catalogue::groups::Part;
 use catalogue::row::Kind;
@@ -15,7 +14,8 @@ use text::sign::magnitude;
 use text::word::only_differing;
 use values::parameter::Parameter;
 
-// An output, or the whole where none is told.
+// An output, or the whole for 0.
+#[tactic(auto, using(crate::specs::Say::Writing::output_or_lem))]
 fn output_or(output: u64) -> Part
     ensures { result ≡ output_or output }
 {
@@ -26,39 +26,38 @@ fn output_or(output: u64) -> Part
 }
 
 // What the line names: of a routing word in which one output alone differs, that output; else the whole.
+#[tactic(auto, using(crate::specs::Say::Writing::saying))]
 fn said_part(kind: Kind, present: i64, wanted: i64) -> Part
     ensures { result ≡ said_part kind present wanted }
 {
     match kind {
-        Kind::Level => Part::Whole,
-        Kind::Switch => Part::Whole,
-        Kind::Number => Part::Whole,
         Kind::Word => output_or(only_differing(magnitude(present), magnitude(wanted))),
+        Kind::Level | Kind::Switch | Kind::Number => Part::Whole,
     }
 }
 
 // How long the set line that says a whole value is with its 0D, where the label is `size` bytes long.
+#[tactic(auto, using(crate::specs::Say::Writing::whole_lengths))]
 pub fn whole_line_length(table: &[u8], p: Parameter, size: usize, wanted: i64) -> usize
     requires { size ≡ length (label table.now p.owner) }
     ensures { (result ≡ length (line_for 0x53 table.now p Whole wanted ++ (0x0D ∷ []))) × (result ≤ 128) }
 {
-    let row = p.row;
-    let kind = row.kind;
-    4 + name_length(table, p, Part::Whole, size) + text_length(kind, wanted)
+    4 + name_length(table, p, Part::Whole, size) + text_length(p.row.kind, wanted)
 }
 
 // How long the set line is with its 0D, where the label is `size` bytes long.
+#[tactic(auto, using(crate::specs::Say::Writing::say_lengths))]
 pub fn say_line_length(table: &[u8], p: Parameter, size: usize, present: i64, wanted: i64) -> usize
     requires { size ≡ length (label table.now p.owner) }
     ensures { result ≡ length (say table.now p present wanted ++ (0x0D ∷ [])) }
 {
-    let row = p.row;
-    let kind = row.kind;
+    let kind = p.row.kind;
     let part = said_part(kind, present, wanted);
     4 + name_length(table, p, part, size) + part_length(kind, part, wanted)
 }
 
 // The set line that says a whole value, and its 0D, where the label is `size` bytes long.
+#[tactic(auto, using(crate::specs::Say::Writing::whole_writing))]
 pub fn put_whole_line(
     table: &[u8],
     p: Parameter,
@@ -70,7 +69,12 @@ pub fn put_whole_line(
     requires wanted_in_bounds { length (line_for 0x53 table.now p Whole wanted ++ (0x0D ∷ [])) ≤ length buffer.old }
     ensures { Wrote buffer.old 0 (line_for 0x53 table.now p Whole wanted ++ (0x0D ∷ [])) result buffer.new }
 {
-    put_whole(table, p, size, b'S', wanted, buffer)
+    let named = Named {
+        table,
+        parameter: p,
+        size,
+    };
+    named.put_line(Part::Whole, b'S', wanted, buffer)
 }
 
 // The set line and its 0D, where the label is `size` bytes long.
@@ -86,8 +90,11 @@ pub fn put_say_line(
     requires wanted_in_bounds { length (say table.now p present wanted ++ (0x0D ∷ [])) ≤ length buffer.old }
     ensures { Wrote buffer.old 0 (say table.now p present wanted ++ (0x0D ∷ [])) result buffer.new }
 {
-    let row = p.row;
-    let kind = row.kind;
-    let part = said_part(kind, present, wanted);
-    put_line(table, p, part, size, b'S', wanted, buffer)
+    let part = said_part(p.row.kind, present, wanted);
+    let named = Named {
+        table,
+        parameter: p,
+        size,
+    };
+    named.put_line(part, b'S', wanted, buffer)
 }

@@ -4,12 +4,14 @@ pub mod Getting
 pub mod Laws
 pub mod Quotes
 pub mod Reading
-use Rattle.std.specs.Prelude.{Bool, cond, List, [], ◌∷◌, ℕ, ◌+◌, eqb, ltb, length, get_or, take}
+use Rattle.std.specs.Prelude.{Bool, cond, List, [], ◌∷◌, ℕ, ◌+◌, eqb, ltb, length, get_or, take, Result, Ok, Err}
 use Rattle.text.specs.Cut.{first_from}
 use Rattle.room.specs.Label.{same}
+use Rattle.syntax.specs.Cause.{malformed}
 use Rattle.syntax.specs.declared.cause.Cause.TheVariants.{Overrun, NoVerb, NoOpeningQuote, NoClosingQuote, NoEquals}
 use Rattle.syntax.specs.declared.shape.Shape.{Shape}
-use Rattle.syntax.specs.declared.shape.Shape.TheVariants.{Malformed, Get, Set}
+use Rattle.syntax.specs.declared.cause.Malformed.{Malformed}
+use Rattle.syntax.specs.declared.shape.Shape.TheVariants.{Get, Set}
 
 -- a line has at most 64 bytes
 unfoldable pub line_limit : ℕ
@@ -35,23 +37,23 @@ unfoldable pub equals : List ℕ → ℕ
 equals line = first_from 0x3D (closing line + 1) line
 
 -- from the two quotes on: a get line's index part runs to the end, a set line's to the first `=`
-unfoldable pub get_shape : List ℕ → Shape
-get_shape line = Get (opening line) (closing line)
+unfoldable pub get_shape : List ℕ → Result Shape Malformed
+get_shape line = Ok (Get (opening line) (closing line))
 
-unfoldable pub set_shape : List ℕ → Shape
-set_shape line = cond (ltb (equals line) (length line)) (Set (opening line) (closing line) (equals line)) (Malformed NoEquals (length line))
+unfoldable pub set_shape : List ℕ → Result Shape Malformed
+set_shape line = cond (ltb (equals line) (length line)) (Ok (Set (opening line) (closing line) (equals line))) (Err (malformed NoEquals (length line)))
 
 -- a quote where it should stand, and another one behind it; the second one is missed at the line's end
-unfoldable pub quoted : List ℕ → Shape → Shape
+unfoldable pub quoted : List ℕ → Result Shape Malformed → Result Shape Malformed
 quoted line shape =
     cond (eqb (get_or line (opening line) 0) 0x22)
-    (cond (ltb (closing line) (length line)) shape (Malformed NoClosingQuote (length line)))
-    (Malformed NoOpeningQuote (opening line))
+    (cond (ltb (closing line) (length line)) shape (Err (malformed NoClosingQuote (length line))))
+    (Err (malformed NoOpeningQuote (opening line)))
 
 -- at most 64 bytes; the verb in capitals, SA or GA; at most one space; a quote, and a second one; for SA the `=` after it. Any other line is malformed: the first of these
 -- that it lacks is the cause, and the place is the byte of the line where that shows
-unfoldable pub shape : List ℕ → Shape
+unfoldable pub shape : List ℕ → Result Shape Malformed
 shape line =
-    cond (ltb line_limit (length line)) (Malformed Overrun line_limit)
+    cond (ltb line_limit (length line)) (Err (malformed Overrun line_limit))
     (cond (is_set line) (quoted line (set_shape line))
-    (cond (is_get line) (quoted line (get_shape line)) (Malformed NoVerb 0)))
+    (cond (is_get line) (quoted line (get_shape line)) (Err (malformed NoVerb 0))))

@@ -3,52 +3,39 @@ ghost use Rattle.std.specs.Prelude.{◌≡◌};
 ghost use Rattle.syntax.specs.IndexGroup.{read_group, read_pair};
 ghost use Rattle.syntax.specs.IndexPart.{groups, one_group, read_indices, two_groups};
 
-use crate::index_group::{GroupText, read_group, read_pair};
+use crate::index_group::{read_group, read_pair};
 use catalogue::groups::{Group, Groups};
 use text::cut::find;
-use text::number::{Number, read_number};
-
-#[derive(Clone, Copy)]
-pub enum IndexPart {
-    Right(Groups),
-    Wrong,
-}
+use text::number::read_number;
 
 // One group that is no number.
-fn read_one_pair(s: &[u8]) -> IndexPart
+fn read_one_pair(s: &[u8]) -> Option<Groups>
     ensures { result ≡ one_group (read_pair s.now) }
 {
-    match read_pair(s) {
-        GroupText::Right(g) => IndexPart::Right(Groups::OneGroup(g)),
-        GroupText::Wrong => IndexPart::Wrong,
-    }
+    Some(Groups::OneGroup(read_pair(s)?))
 }
 
 // One group: most lines name a parameter by one number.
-fn read_one(s: &[u8]) -> IndexPart
+fn read_one(s: &[u8]) -> Option<Groups>
     ensures { result ≡ one_group (read_group s.now) }
 {
     match read_number(s, 3) {
-        Number::Value(a) => IndexPart::Right(Groups::OneGroup(Group::Single(a))),
-        Number::Wrong => read_one_pair(s),
+        Some(a) => Some(Groups::OneGroup(Group::Single(a))),
+        None => read_one_pair(s),
     }
 }
 
 // Two groups.
-fn read_two(first: &[u8], second: &[u8]) -> IndexPart
+fn read_two(first: &[u8], second: &[u8]) -> Option<Groups>
     ensures { result ≡ two_groups (read_group first.now) (read_group second.now) }
 {
-    match read_group(first) {
-        GroupText::Right(g) => match read_group(second) {
-            GroupText::Right(h) => IndexPart::Right(Groups::TwoGroups(g, h)),
-            GroupText::Wrong => IndexPart::Wrong,
-        },
-        GroupText::Wrong => IndexPart::Wrong,
-    }
+    let g = read_group(first)?;
+    let h = read_group(second)?;
+    Some(Groups::TwoGroups(g, h))
 }
 
-// Behind the first `>`: one group, or two with a `>` between them.
-fn read_groups(s: &[u8]) -> IndexPart
+// After the first `>`: one group, or two with a `>` between them.
+fn read_groups(s: &[u8]) -> Option<Groups>
     ensures { result ≡ groups s.now }
 {
     let arrow = find(s, b'>');
@@ -59,14 +46,14 @@ fn read_groups(s: &[u8]) -> IndexPart
 }
 
 // The index groups that an index part says: a `>` with a group, once or twice.
-pub fn read_indices(part: &[u8]) -> IndexPart
+pub fn read_indices(part: &[u8]) -> Option<Groups>
     ensures { result ≡ read_indices part.now }
 {
     if part.len() == 0 {
-        return IndexPart::Wrong;
+        return None;
     }
     if part[0] == b'>' {
         return read_groups(&part[1..]);
     }
-    IndexPart::Wrong
+    None
 }

@@ -9,10 +9,8 @@ pub mod Reading
 pub mod Sign
 pub mod Told
 pub mod Writing
-use Rattle.std.specs.Prelude.{Bool, true, false, cond, List, [], ◌∷◌, ◌++◌, ℕ, zero, suc, ◌+◌, ◌-◌, ◌*◌, ◌/◌, ◌%◌, eqb, ℤ, pos, negsuc, neg_ℤ, nat_abs}
+use Rattle.std.specs.Prelude.{Bool, true, false, cond, List, [], ◌∷◌, ◌++◌, ℕ, zero, suc, ◌+◌, ◌-◌, ◌*◌, ◌/◌, ◌%◌, eqb, ℤ, pos, negsuc, neg_ℤ, nat_abs, Option, Some, None}
 use Rattle.text.specs.Digits.{is_digit, digits}
-use Rattle.text.specs.declared.level.Level.{Level}
-use Rattle.text.specs.declared.level.Level.TheVariants.{Tenths, Wrong}
 
 -- n with a minus sign or without; with one, 0 is 0
 unfoldable pub signed : Bool → ℕ → ℤ
@@ -20,29 +18,29 @@ signed true n = neg_ℤ (pos n)
 signed false n = pos n
 
 -- behind the point: exactly one digit
-unfoldable pub level_tenth : Bool → ℕ → List ℕ → Level
-level_tenth minus whole [] = Wrong
-level_tenth minus whole (b ∷ []) = cond (is_digit b) (Tenths (signed minus (whole * 10 + (b - 48)))) Wrong
-level_tenth minus whole (b ∷ c ∷ s) = Wrong
+unfoldable pub level_tenth : Bool → ℕ → List ℕ → Option ℤ
+level_tenth minus whole [] = None
+level_tenth minus whole (b ∷ []) = cond (is_digit b) (Some (signed minus (whole * 10 + (b - 48)))) None
+level_tenth minus whole (b ∷ c ∷ s) = None
 
 -- behind the whole part: the end, or a point
-unfoldable pub level_point : Bool → ℕ → List ℕ → Level
-level_point minus whole [] = Tenths (signed minus (whole * 10))
-level_point minus whole (b ∷ s) = cond (eqb b 46) (level_tenth minus whole s) Wrong
+unfoldable pub level_point : Bool → ℕ → List ℕ → Option ℤ
+level_point minus whole [] = Some (signed minus (whole * 10))
+level_point minus whole (b ∷ s) = cond (eqb b 46) (level_tenth minus whole s) None
 
 -- behind the first digit: a second one, or what follows the whole part
-unfoldable pub level_more : Bool → ℕ → List ℕ → Level
+unfoldable pub level_more : Bool → ℕ → List ℕ → Option ℤ
 level_more minus whole [] = level_point minus whole []
 level_more minus whole (b ∷ s) = cond (is_digit b) (level_point minus (whole * 10 + (b - 48)) s) (level_point minus whole (b ∷ s))
 
 -- behind the sign: a digit
-unfoldable pub level_whole : Bool → List ℕ → Level
-level_whole minus [] = Wrong
-level_whole minus (b ∷ s) = cond (is_digit b) (level_more minus (b - 48) s) Wrong
+unfoldable pub level_whole : Bool → List ℕ → Option ℤ
+level_whole minus [] = None
+level_whole minus (b ∷ s) = cond (is_digit b) (level_more minus (b - 48) s) None
 
 -- a level text: perhaps a `-`, then one or two digits, then perhaps a point and one digit more
-unfoldable pub read_level : List ℕ → Level
-read_level [] = Wrong
+unfoldable pub read_level : List ℕ → Option ℤ
+read_level [] = None
 read_level (b ∷ s) = cond (eqb b 45) (level_whole true s) (level_whole false (b ∷ s))
 
 -- the sign of v: a `-` where v is below 0

@@ -8,11 +8,9 @@ pub mod Text
 pub mod Reading
 pub mod Writing
 pub mod Examples
-use Rattle.std.specs.Prelude.{cond, ◌&&◌, List, [], ◌∷◌, ℕ, zero, suc, ◌+◌, ◌-◌, ◌*◌, ◌/◌, ◌%◌, eqb, length}
+use Rattle.std.specs.Prelude.{cond, ◌&&◌, List, [], ◌∷◌, ℕ, zero, suc, ◌+◌, ◌-◌, ◌*◌, ◌/◌, ◌%◌, eqb, length, Option, Some, None}
 use Rattle.text.specs.Every.{every}
 use Rattle.text.specs.Hex.{is_hex_digit, hex_digits, hex_on}
-use Rattle.text.specs.declared.word.Word.{Word}
-use Rattle.text.specs.declared.word.Word.TheVariants.{Value, Wrong}
 
 -- the bit that stands k places above the lowest
 unfoldable pub bit_at : ℕ → ℕ → ℕ
@@ -56,5 +54,5 @@ unfoldable pub hex_text : ℕ → List ℕ
 hex_text w = hex_digits 8 w
 
 -- what a word's text says: exactly eight hex digits
-unfoldable pub read_hex : List ℕ → Word
-read_hex s = cond (eqb (length s) 8 && every is_hex_digit s) (Value (hex_on 0 s)) Wrong
+unfoldable pub read_hex : List ℕ → Option ℕ
+read_hex s = cond (eqb (length s) 8 && every is_hex_digit s) (Some (hex_on 0 s)) None

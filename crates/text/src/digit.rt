@@ -3,13 +3,11 @@ ghost use Rattle.std.specs.Prelude.{◌≡◌, true, ◌-◌};
 ghost use Rattle.text.specs.Digits.{is_digit};
 
 // A byte from `0` to `9`.
+#[tactic(auto, unfolding(crate::specs::Digits::is_digit))]
 pub(crate) fn is_digit(b: u8) -> bool
     ensures { result ≡ is_digit b }
 {
-    if b < b'0' {
-        return false;
-    }
-    b <= b'9'
+    b.is_ascii_digit()
 }
 
 // The number that a digit says.

@@ -3,19 +3,11 @@ ghost use Rattle.std.specs.Prelude.{◌≡◌, true, ◌<◌};
 ghost use Rattle.text.specs.Hex.{hex_digit, hex_value, is_hex_digit};
 
 // A byte from `0` to `9` or from `A` to `F`.
+#[tactic(auto, unfolding(crate::specs::Hex::is_hex_digit, crate::specs::Digits::is_digit))]
 pub(crate) fn is_hex_digit(b: u8) -> bool
     ensures { result ≡ is_hex_digit b }
 {
-    if b < b'0' {
-        return false;
-    }
-    if b <= b'9' {
-        return true;
-    }
-    if b < b'A' {
-        return false;
-    }
-    b <= b'F'
+    matches!(b, b'0'..=b'9' | b'A'..=b'F')
 }
 
 // The number that a hex digit says.

@@ -9,13 +9,6 @@ use crate::number::{number_length, put_number};
 use crate::sign::{magnitude, with_sign};
 use crate::written::put_byte;
 
-// What a level text says, in tenths of a dB, or that it is none.
-#[derive(Clone, Copy)]
-pub enum Level {
-    Tenths(i64),
-    Wrong,
-}
-
 // A level text as far as it is read: the number is what the digits say, and the flag tells whether a `-` stands before them.
 #[derive(Clone, Copy)]
 enum Reading {
@@ -25,64 +18,63 @@ enum Reading {
     Digits(bool, u64),
     Point(bool, u64),
     Tenth(bool, u64),
-    Wrong,
 }
 
-// Behind the point: a digit.
-fn read_tenth(minus: bool, whole: u64, b: u8) -> Reading
+// After the point: a digit.
+fn read_tenth(minus: bool, whole: u64, b: u8) -> Option<Reading>
     requires { whole < 100 }
     ensures { ReadOn (level_tenth minus whole) b result }
 {
     if is_digit(b) {
-        return Reading::Tenth(minus, whole * 10 + digit_of(b));
+        return Some(Reading::Tenth(minus, whole * 10 + digit_of(b)));
     }
-    Reading::Wrong
+    None
 }
 
-// Behind the second digit: a point.
-fn read_point(minus: bool, whole: u64, b: u8) -> Reading
+// After the second digit: a point.
+fn read_point(minus: bool, whole: u64, b: u8) -> Option<Reading>
     requires { whole < 100 }
     ensures { ReadOn (level_point minus whole) b result }
 {
     if b == b'.' {
-        return Reading::Point(minus, whole);
+        return Some(Reading::Point(minus, whole));
     }
-    Reading::Wrong
+    None
 }
 
-// Behind the first digit: a second one, or a point.
-fn read_second(minus: bool, whole: u64, b: u8) -> Reading
+// After the first digit: a second one, or a point.
+fn read_second(minus: bool, whole: u64, b: u8) -> Option<Reading>
     requires { whole < 10 }
     ensures { ReadOn (level_more minus whole) b result }
 {
     if is_digit(b) {
-        return Reading::Digits(minus, whole * 10 + digit_of(b));
+        return Some(Reading::Digits(minus, whole * 10 + digit_of(b)));
     }
     read_point(minus, whole, b)
 }
 
-// Behind the sign: a digit.
-fn read_first(minus: bool, b: u8) -> Reading
+// After the sign: a digit.
+fn read_first(minus: bool, b: u8) -> Option<Reading>
     ensures { ReadOn (level_whole minus) b result }
 {
     if is_digit(b) {
-        return Reading::Digit(minus, digit_of(b));
+        return Some(Reading::Digit(minus, digit_of(b)));
     }
-    Reading::Wrong
+    None
 }
 
 // At the start: a `-`, or a digit.
-fn read_start(b: u8) -> Reading
+fn read_start(b: u8) -> Option<Reading>
     ensures { ReadOn read_level b result }
 {
     if b == b'-' {
-        return Reading::Sign;
+        return Some(Reading::Sign);
     }
     read_first(false, b)
 }
 
 // One byte more.
-fn read_byte(reading: Reading, b: u8) -> Reading
+fn read_byte(reading: Reading, b: u8) -> Option<Reading>
     requires { Small reading }
     ensures { ReadOn (level_from reading) b result }
 {
@@ -92,39 +84,34 @@ fn read_byte(reading: Reading, b: u8) -> Reading
         Reading::Digit(minus, whole) => read_second(minus, whole, b),
         Reading::Digits(minus, whole) => read_point(minus, whole, b),
         Reading::Point(minus, whole) => read_tenth(minus, whole, b),
-        Reading::Tenth(_, _) => Reading::Wrong,
-        Reading::Wrong => Reading::Wrong,
+        Reading::Tenth(_, _) => None,
     }
 }
 
 // The level that is read where the text ends.
-fn read_end(reading: Reading) -> Level
+#[tactic(auto, using(crate::specs::Level::Passed::end_rules))]
+fn read_end(reading: Reading) -> Option<i64>
     requires { Small reading }
     ensures { result ≡ level_from reading [] }
 {
     match reading {
-        Reading::Start => Level::Wrong,
-        Reading::Sign => Level::Wrong,
-        Reading::Digit(minus, whole) => Level::Tenths(with_sign(minus, whole * 10)),
-        Reading::Digits(minus, whole) => Level::Tenths(with_sign(minus, whole * 10)),
-        Reading::Point(_, _) => Level::Wrong,
-        Reading::Tenth(minus, tenths) => Level::Tenths(with_sign(minus, tenths)),
-        Reading::Wrong => Level::Wrong,
+        Reading::Start | Reading::Sign | Reading::Point(_, _) => None,
+        Reading::Digit(minus, whole) | Reading::Digits(minus, whole) => Some(with_sign(
+            minus,
+            whole * 10,
+        )),
+        Reading::Tenth(minus, tenths) => Some(with_sign(minus, tenths)),
     }
 }
 
-// The level that `s` says: perhaps a `-`, then one or two digits, then perhaps a point and one digit more.
-pub fn read_level(s: &[u8]) -> Level
+// The level that `s` says, in tenths of a dB: perhaps a `-`, then one or two digits, then perhaps a point and one digit more.
+#[tactic(auto, using(crate::specs::Level::Passed::level_rules))]
+pub fn read_level(s: &[u8]) -> Option<i64>
     ensures { result ≡ read_level s.now }
 {
     let mut reading = Reading::Start;
-    let mut i = 0;
-    while i < s.len() {
-        reading = read_byte(reading, s[i]);
-        if let Reading::Wrong = reading {
-            return Level::Wrong;
-        }
-        i += 1;
+    for b in s {
+        reading = read_byte(reading, *b)?;
     }
     read_end(reading)
 }

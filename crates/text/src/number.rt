@@ -7,36 +7,26 @@ ghost use Rattle.text.specs.Written.{Wrote};
 use crate::digit::{digit_of, is_digit};
 use crate::written::put_byte;
 
-// What a number text says, or that it is none.
-#[derive(Clone, Copy)]
-pub enum Number {
-    Value(u64),
-    Wrong,
-}
-
 // The number that `s` says, where it is one to `width` digits.
-pub fn read_number(s: &[u8], width: usize) -> Number
+#[tactic(auto, using(crate::specs::Number::Passed::passing))]
+pub fn read_number(s: &[u8], width: usize) -> Option<u64>
     requires { width ≤ 19 }
     ensures { result ≡ read_number width s.now }
 {
     if s.len() == 0 {
-        return Number::Wrong;
+        return None;
     }
     if width < s.len() {
-        return Number::Wrong;
+        return None;
     }
     let mut n = 0;
-    let mut i = 0;
-    while i < s.len() {
-        let b = s[i];
-        if is_digit(b) {
-            n = n * 10 + digit_of(b);
-            i += 1;
-        } else {
-            return Number::Wrong;
+    for b in s {
+        if !is_digit(*b) {
+            return None;
         }
+        n = n * 10 + digit_of(*b);
     }
-    Number::Value(n)
+    Some(n)
 }
 
 // How many digits `n` has.
@@ -45,6 +35,7 @@ pub fn number_length(n: u64) -> usize
 {
     let mut rest = n;
     let mut count = 1;
+    // No index is counted here: a number is divided until it has one digit.
     while 10 <= rest {
         rest = rest / 10;
         count += 1;

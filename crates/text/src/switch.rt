@@ -5,33 +5,28 @@ ghost use Rattle.text.specs.Written.{Wrote};
 
 use crate::written::put_byte;
 
-// What a switch text says, or that it is none.
+// What a switch text says; `Turn` turns the present value over.
 #[derive(Clone, Copy)]
 pub enum Switch {
     On,
     Off,
     Turn,
-    Wrong,
 }
 
 // The switch that `s` says, where it is exactly one letter of the three.
-pub fn read_switch(s: &[u8]) -> Switch
+#[tactic(auto, using(crate::specs::Switch::Laws::letters))]
+pub fn read_switch(s: &[u8]) -> Option<Switch>
     ensures { result ≡ read_switch s.now }
 {
     if s.len() != 1 {
-        return Switch::Wrong;
+        return None;
     }
-    let b = s[0];
-    if b == b'O' {
-        return Switch::On;
+    match s[0] {
+        b'O' => Some(Switch::On),
+        b'F' => Some(Switch::Off),
+        b'T' => Some(Switch::Turn),
+        _ => None,
     }
-    if b == b'F' {
-        return Switch::Off;
-    }
-    if b == b'T' {
-        return Switch::Turn;
-    }
-    Switch::Wrong
 }
 
 // `F` where `n` is 0, else `O`.

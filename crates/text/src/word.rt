@@ -5,13 +5,6 @@ ghost use Rattle.text.specs.Written.{Wrote};
 
 use crate::hex::{hex_digit, hex_value, is_hex_digit};
 
-// What a word's text says, or that it is none.
-#[derive(Clone, Copy)]
-pub enum Word {
-    Value(u64),
-    Wrong,
-}
-
 // 1 where `word` has `output`, else 0. Output 1 is the highest of the 32 bits.
 pub fn bit_of(output: u64, word: u64) -> u64
     requires le_output { 1 ≤ output }
@@ -58,6 +51,7 @@ pub fn only_differing(v: u64, w: u64) -> u64
         return 0;
     }
     let mut output = 32;
+    // No index is counted here: two numbers are halved until they differ in the last bit.
     while a % 2 == b % 2 {
         a = a / 2;
         b = b / 2;
@@ -70,35 +64,31 @@ pub fn only_differing(v: u64, w: u64) -> u64
 }
 
 // The word that `s` says, where it is exactly eight hex digits.
-pub fn read_word(s: &[u8]) -> Word
+#[tactic(auto, using(crate::specs::Word::Reading::hex_passing))]
+pub fn read_word(s: &[u8]) -> Option<u64>
     ensures { result ≡ read_hex s.now }
 {
     if s.len() != 8 {
-        return Word::Wrong;
+        return None;
     }
     let mut n = 0;
-    let mut i = 0;
-    while i < s.len() {
-        let b = s[i];
-        if is_hex_digit(b) {
-            n = n * 16 + hex_value(b);
-            i += 1;
-        } else {
-            return Word::Wrong;
+    for b in s {
+        if !is_hex_digit(*b) {
+            return None;
         }
+        n = n * 16 + hex_value(*b);
     }
-    Word::Value(n)
+    Some(n)
 }
 
 // The eight hex digits of `word`.
+#[tactic(auto, using(crate::specs::Word::Writing::word_writing))]
 pub fn put_word(buffer: &mut [u8], at: usize, word: u64) -> usize
     requires { at + length (hex_text word) ≤ length buffer.old }
     ensures { Wrote buffer.old at (hex_text word) result buffer.new }
 {
-    let mut i = 0;
-    while i < 8 {
+    for i in 0..8 {
         buffer[at + i] = hex_digit((word >> (28 - 4 * i)) % 16);
-        i += 1;
     }
-    at + i
+    at + 8
 }

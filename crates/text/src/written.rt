@@ -7,12 +7,9 @@ pub fn put_bytes(buffer: &mut [u8], at: usize, source: &[u8]) -> usize
     requires { at + length source.now ≤ length buffer.old }
     ensures { Wrote buffer.old at source.now result buffer.new }
 {
-    let mut i = 0;
-    while i < source.len() {
-        buffer[at + i] = source[i];
-        i += 1;
-    }
-    at + i
+    let end = at + source.len();
+    buffer[at..end].copy_from_slice(source);
+    end
 }
 
 // One byte.

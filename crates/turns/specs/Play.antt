@@ -2,31 +2,28 @@
 pub mod Counting
 pub mod Playing
 pub mod Telling
-use Rattle.std.specs.Prelude.{◌≡◌, Bool, List, [], ◌∷◌, ℕ, ◌%◌, ℤ, drop, take}
+use Rattle.std.specs.Prelude.{◌≡◌, Bool, List, [], ◌∷◌, ℕ, ◌%◌, ℤ, drop, take, None, Option, Some}
 use Rattle.syntax.specs.Cause.{cause_number}
-use Rattle.line.specs.declared.fault.Fault.{Fault}
-use Rattle.line.specs.declared.fault.Fault.TheVariants as fault
+use Rattle.syntax.specs.declared.cause.Malformed.{Malformed}
 use Rattle.values.specs.Room.{Room}
 use Rattle.connections.specs.Connections.{Switches}
 use Rattle.connections.specs.Round.{last_after}
 use Rattle.connections.specs.Turn.{Turns, asked, tells}
 use Rattle.connections.specs.declared.connection.Connection.{Connection}
-use Rattle.connections.specs.declared.round.Served.{Served}
-use Rattle.connections.specs.declared.round.Served.TheVariants.{Nobody, One}
 use Rattle.connections.specs.declared.turning.Turned.{Turned}
 use Rattle.turns.specs.Command.{command_of}
-use Rattle.turns.specs.declared.command.Command.TheVariants.{Switch, Turn, Nothing}
+use Rattle.turns.specs.declared.command.Command.TheVariants.{Switch, Turn}
 use Rattle.turns.specs.declared.play.Played.{Played}
 
 -- the cause of a 99 and its place, zeros where there is none; a place by its last byte
-unfoldable pub fault_bytes : Fault → List ℕ
-fault_bytes fault.Nothing = 0 ∷ 0 ∷ []
-fault_bytes (fault.At c n) = cause_number c ∷ n % 256 ∷ []
+unfoldable pub fault_bytes : Option Malformed → List ℕ
+fault_bytes None = 0 ∷ 0 ∷ []
+fault_bytes (Some m) = cause_number m.cause ∷ m.place % 256 ∷ []
 
 -- 1 and the connection that was served, or zeros; then the others
-unfoldable pub served_bytes : Served → List ℕ → List ℕ
-served_bytes Nobody bs = 0 ∷ 0 ∷ bs
-served_bytes (One i) bs = 1 ∷ i % 256 ∷ bs
+unfoldable pub served_bytes : Option ℕ → List ℕ → List ℕ
+served_bytes None bs = 0 ∷ 0 ∷ bs
+served_bytes (Some i) bs = 1 ∷ i % 256 ∷ bs
 
 -- what is written of a turn before its reply: its number, whom it served, how many bytes it consumed and sent, and the fault; numbers by their last byte
 unfoldable pub told_bytes : Turned → List ℕ
@@ -46,8 +43,8 @@ turned_to row last t = record { row = row; last = last_after last t.served; told
 
 -- the promise of playing a command: of a turn the 32 bytes behind the letter are the counts, and what follows is what waits
 pub data Plays (r : Room) (row : List Connection) (last : ℕ) (command : List ℕ) (vs : List ℤ) (buffer : List ℕ) (p : Played) (vs' : List ℤ) (buffer' : List ℕ) : Type 0 where
-  plays_nothing : command_of command ≡ Nothing → p ≡ unplayed row last → vs' ≡ vs → buffer' ≡ buffer → Plays r row last command vs buffer p vs' buffer'
-  plays_switch : (want : Bool) (i number : ℕ) → command_of command ≡ Switch want i → Switches want row i number p.row → p ≡ switched_to p.row last number → vs' ≡ vs → buffer' ≡ buffer
+  plays_nothing : command_of command ≡ None → p ≡ unplayed row last → vs' ≡ vs → buffer' ≡ buffer → Plays r row last command vs buffer p vs' buffer'
+  plays_switch : (want : Bool) (i number : ℕ) → command_of command ≡ Some (Switch want i) → Switches want row i number p.row → p ≡ switched_to p.row last number → vs' ≡ vs → buffer' ≡ buffer
       → Plays r row last command vs buffer p vs' buffer'
-  plays_turn : (t : Turned) → command_of command ≡ Turn → Turns r (asked row last (take 32 (drop 1 command)) (drop 33 command) vs buffer) (tells t vs' buffer') p.row
+  plays_turn : (t : Turned) → command_of command ≡ Some Turn → Turns r (asked row last (take 32 (drop 1 command)) (drop 33 command) vs buffer) (tells t vs' buffer') p.row
       → p ≡ turned_to p.row last t → Plays r row last command vs buffer p vs' buffer'

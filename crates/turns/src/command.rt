@@ -1,58 +1,50 @@
 // What the bytes of a command say.
 ghost use Rattle.std.specs.Prelude.{◌≡◌, ◌*◌, ◌≤◌, length};
-ghost use Rattle.turns.specs.Command.{command_of};
+ghost use Rattle.turns.specs.Command.{command_of, switch_of};
 
-// Opening or closing a connection, a turn, or nothing that the program knows.
+// Opening or closing a connection, or a turn.
 #[derive(Clone, Copy)]
 pub enum Command {
     Switch(bool, usize),
     Turn,
-    Nothing,
 }
 
-// A byte as a number.
-fn number_of(byte: u8) -> usize
-    ensures { result ≡ byte }
+// Of two bytes: `o` and a number open a connection, `c` and a number close it.
+fn switch_of(letter: u8, number: u8) -> Option<Command>
+    ensures { result ≡ switch_of letter number }
 {
-    byte as usize
+    match letter {
+        b'o' => Some(Command::Switch(true, usize::from(number))),
+        b'c' => Some(Command::Switch(false, usize::from(number))),
+        _ => None,
+    }
 }
 
-// `o` and a number open a connection, `c` and a number close it; `t`, 32 counts and the bytes that they divide are a turn.
-pub(crate) fn command_of(bytes: &[u8]) -> Command
+// Two bytes switch a connection; `t`, 32 counts and the bytes that they divide are a turn. Other bytes are no command.
+pub(crate) fn command_of(bytes: &[u8]) -> Option<Command>
     ensures { result ≡ command_of bytes.now }
 {
     if bytes.len() == 2 {
-        if bytes[0] == 111 {
-            return Command::Switch(true, number_of(bytes[1]));
-        }
-        if bytes[0] == 99 {
-            return Command::Switch(false, number_of(bytes[1]));
-        }
-        return Command::Nothing;
+        return switch_of(bytes[0], bytes[1]);
     }
     if bytes.len() < 33 {
-        return Command::Nothing;
+        return None;
     }
-    if bytes[0] == 116 {
-        return Command::Turn;
+    if bytes[0] != b't' {
+        return None;
     }
-    Command::Nothing
+    Some(Command::Turn)
 }
 
-// How many bytes a command has behind its first one, as far as that tells: of a turn the counts alone.
+// How many bytes a command has after its first one, as far as that tells: of a turn the counts alone.
 pub(crate) fn more_of(first: u8) -> usize
     ensures { result ≤ 32 }
 {
-    if first == 111 {
-        return 1;
+    match first {
+        b'o' | b'c' => 1,
+        b't' => 32,
+        _ => 0,
     }
-    if first == 99 {
-        return 1;
-    }
-    if first == 116 {
-        return 32;
-    }
-    0
 }
 
 // The sum of the counts. The contract only limits it.
@@ -61,10 +53,8 @@ pub(crate) fn sum_of(counts: &[u8]) -> usize
     ensures { result ≤ 255 * length counts.now }
 {
     let mut sum = 0;
-    let mut i = 0;
-    while i < counts.len() {
-        sum += counts[i] as usize;
-        i += 1;
+    for count in counts {
+        sum += usize::from(*count);
     }
     sum
 }

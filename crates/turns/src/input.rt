@@ -1,44 +1,44 @@
 // Playing the commands of standard input.
-ghost use Rattle.std.specs.Prelude.{true, ◌≡◌, ◌≤◌, length};
+ghost use Rattle.std.specs.Prelude.{true, ◌≡◌, ◌≤◌, length, IfSome};
 ghost use Rattle.room.specs.Table.{sound};
-ghost use Rattle.values.specs.Values.{value_limit};
 
 use crate::command::{more_of, sum_of};
 use crate::play::play;
-use crate::stream::{read_full, write_whole};
-use catalogue::table::all_rows;
 use connections::connection::{Connection, fresh_row};
+use std::io;
 use std::io::{Read, Write};
+use streams::reading::read_full;
+use streams::writing::write_whole;
 use values::VALUES;
 use values::starts::fill_starts;
 
-// Reads one command, and tells how many bytes it has: 0 where the input ends before it does. Which bytes come is outside the proof, so the contract only limits the answer.
-fn read_command(reader: &mut impl Read, input: &mut [u8]) -> usize
-    requires { 8193 ≤ length input.old }
-    ensures { result ≤ length input.new }
-{
-    let first = read_full(reader, &mut input[..1]);
-    if first == 0 {
-        return 0;
+// Fills the buffer, unless the input ends or a read fails before it is full.
+fn fill(reader: &mut impl Read, buffer: &mut [u8]) -> Option<()> {
+    let count = read_full(reader, buffer).ok()?;
+    if count < buffer.len() {
+        return None;
     }
-    let end = 1 + more_of(input[0]);
-    let more = read_full(reader, &mut input[1..end]);
-    if more + 1 != end {
-        return 0;
-    }
-    if end != 33 {
-        return end;
-    }
-    let all = 33 + sum_of(&input[1..33]);
-    let bytes = read_full(reader, &mut input[33..all]);
-    if bytes + 33 != all {
-        return 0;
-    }
-    all
+    Some(())
 }
 
-// Plays command after command, until one is none or what it tells can't be written. A proved loop has to end, and nothing says that the input does: so it counts its commands down,
-// from a number that no run uses up.
+// Reads one command, and returns how many bytes it has: none where the input ends before it does. Which bytes come is outside the proof, so the contract only limits the answer.
+fn read_command(reader: &mut impl Read, input: &mut [u8]) -> Option<usize>
+    requires { 8193 ≤ length input.old }
+    ensures { IfSome result (λ n. n ≤ length input.new) }
+{
+    fill(reader, &mut input[..1])?;
+    let end = 1 + more_of(input[0]);
+    fill(reader, &mut input[1..end])?;
+    if end != 33 {
+        return Some(end);
+    }
+    let all = 33 + sum_of(&input[1..33]);
+    fill(reader, &mut input[33..all])?;
+    Some(all)
+}
+
+// Plays command after command, until one is none or what it tells can't be written. A proved loop has to end, and nothing says that the input does: so it takes a number of commands
+// that no run uses up.
 fn play_all(
     reader: &mut impl Read,
     writer: &mut impl Write,
@@ -48,69 +48,41 @@ fn play_all(
     values: &mut [i64],
     input: &mut [u8],
     reply: &mut [u8],
-)
+) -> io::Result<()>
     requires { 8193 ≤ length input.old }
 {
     let mut row = row;
     let mut last = last;
-    let mut commands = u64::MAX;
-    while 0 < commands {
-        let length = read_command(reader, input);
+    for _commands in 0..u64::MAX {
+        let Some(length) = read_command(reader, input) else {
+            return Ok(());
+        };
         let played = play(row, last, table, &input[..length], values, reply);
-        let count = played.count;
-        if count == 0 {
-            return;
+        if played.count == 0 {
+            return Ok(());
         }
-        let told = played.told;
-        if !write_whole(writer, &told[..count]) {
-            return;
-        }
-        let sent = played.sent;
-        if !write_whole(writer, &reply[..sent]) {
-            return;
-        }
+        write_whole(writer, &played.told[..played.count])?;
+        write_whole(writer, &reply[..played.sent])?;
         row = played.row;
         last = played.last;
-        commands -= 1;
     }
-}
-
-// As many values as a table may have.
-fn value_list() -> [i64; VALUES]
-    ensures { value_limit ≡ length result }
-{
-    [0; VALUES]
-}
-
-// Room for the longest command: a letter, 32 counts and 255 bytes for each.
-fn command_buffer() -> [u8; 8193]
-    ensures { 8193 ≡ length result }
-{
-    [0; 8193]
-}
-
-// Room for a reply.
-fn reply_buffer() -> [u8; 64]
-    ensures { 64 ≡ length result }
-{
-    [0; 64]
+    Ok(())
 }
 
 // Plays standard input from the start values and the fresh row on.
 pub(crate) fn play_input(reader: &mut impl Read, writer: &mut impl Write, table: &[u8])
     requires { sound table.now ≡ true }
 {
-    let rows = all_rows();
-    let mut space = value_list();
-    let count = fill_starts(table, &rows, &mut space);
-    let mut input = command_buffer();
-    let mut reply = reply_buffer();
+    let mut space = [0; VALUES];
+    let count = fill_starts(table, &mut space);
+    // Room for the longest command: a letter, 32 counts and 255 bytes for each.
+    let mut input = [0; 8193];
+    let mut reply = [0; 64];
     let fresh = fresh_row();
-    let row = fresh.row;
-    play_all(
+    let _ = play_all(
         reader,
         writer,
-        row,
+        fresh.row,
         fresh.last,
         table,
         &mut space[..count],

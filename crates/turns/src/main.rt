@@ -4,37 +4,31 @@
 mod command;
 mod input;
 mod play;
-mod stream;
 mod told;
 
-ghost use Rattle.std.specs.Prelude.{◌≡◌, length};
-
 use crate::input::play_input;
-use crate::stream::{read_full, write_whole};
 use room::table::is_sound;
-use std::fs::File;
 use std::io::Write;
-
-// Room for a table.
-fn table_buffer() -> [u8; 4096]
-    ensures { 4096 ≡ length result }
-{
-    [0; 4096]
-}
+use streams::reading::{Unread, read_file};
+use streams::writing::write_whole;
 
 fn refuse(writer: &mut impl Write) {
-    write_whole(writer, b"refused 1\r");
+    let _ = write_whole(writer, b"refused 1\r");
 }
 
 fn main(rt: HostRuntime) {
     let mut reader = rt.stdin();
     let mut writer = rt.stdout();
-    let Ok(mut file) = File::open(&rt, "table") else {
-        refuse(&mut writer);
-        return;
+    let mut space = [0; 4096];
+    let length = match read_file(&rt, b"table", &mut space) {
+        Ok(length) => length,
+        // A table that was read in part is tested as far as it came.
+        Err(Unread::Failed(length)) => length,
+        Err(Unread::Unopened) => {
+            refuse(&mut writer);
+            return;
+        }
     };
-    let mut space = table_buffer();
-    let length = read_full(&mut file, &mut space);
     if !is_sound(&space[..length]) {
         refuse(&mut writer);
         return;

@@ -25,10 +25,8 @@ fn counts_of(bytes: &[u8]) -> [u64; 32]
     ensures { result ≡ bytes.now }
 {
     let mut counts = [0u64; 32];
-    let mut i = 0;
-    while i < bytes.len() {
-        counts[i] = bytes[i] as u64;
-        i += 1;
+    for (i, byte) in bytes.iter().enumerate() {
+        counts[i] = u64::from(*byte);
     }
     counts
 }
@@ -44,15 +42,16 @@ pub(crate) fn play(
 ) -> Played
     ensures { Plays (room_of table.now) row last command.now values.old reply.old result values.new reply.new }
 {
-    let said = command_of(command);
-    match said {
-        Command::Nothing => Played {
+    let Some(said) = command_of(command) else {
+        return Played {
             row: row,
             last: last,
             told: [0, 0, 0, 0, 0, 0, 0],
             count: 0,
             sent: 0,
-        },
+        };
+    };
+    match said {
         Command::Switch(want, number) => {
             let done = switch_of(row, number, want);
             let after = done.row;

@@ -2,7 +2,9 @@
 pub mod Laws
 pub mod Listed
 pub mod Seeking
-use Rattle.std.specs.Prelude.{Bool, true, false, cond, ◌&&◌, ℕ, eqb, leb}
+use Rattle.std.specs.Prelude.{Bool, true, false, cond, ◌&&◌, ℕ, eqb, leb, Option, Some, None}
+use Rattle.catalogue.specs.declared.groups.Part.{Part}
+use Rattle.values.specs.declared.parameter.Parameter.{Parameter}
 use Rattle.catalogue.specs.declared.groups.Group.TheVariants.{Single, Pair}
 use Rattle.catalogue.specs.declared.groups.Groups.{Groups}
 use Rattle.catalogue.specs.declared.groups.Groups.TheVariants.{OneGroup, TwoGroups}
@@ -12,10 +14,6 @@ use Rattle.catalogue.specs.declared.row.Kind.{Kind}
 use Rattle.catalogue.specs.declared.row.Kind.TheVariants.{Level, Switch, Number, Word}
 use Rattle.room.specs.declared.table.Module.{Module}
 use Rattle.values.specs.Parameters.{parameters_of, with_indices}
-use Rattle.values.specs.declared.control.ControlFound.{ControlFound}
-use Rattle.values.specs.declared.control.ControlFound.TheVariants.{At, Nothing}
-use Rattle.values.specs.declared.parameter.ParameterFound.{ParameterFound}
-use Rattle.values.specs.declared.parameter.ParameterFound.TheVariants as parameter
 
 unfoldable pub is_word : Kind → Bool
 is_word Level = false
@@ -24,20 +22,20 @@ is_word Number = false
 is_word Word = true
 
 -- the whole of a parameter
-unfoldable pub whole : ParameterFound → ControlFound
-whole (parameter.At p) = At p Whole
-whole parameter.Nothing = Nothing
+unfoldable pub whole : Option Parameter → Option (Parameter × Part)
+whole (Some p) = Some (p, Whole)
+whole None = None
 
 -- a cross-point: of a routing word one of the mixer's outputs, which are counted from 1
-unfoldable pub crosspoint : (outputs output : ℕ) → ParameterFound → ControlFound
-crosspoint outputs o (parameter.At p) = cond (is_word p.row.kind && (leb 1 o && leb o outputs)) (At p (Output o)) Nothing
-crosspoint outputs o parameter.Nothing = Nothing
+unfoldable pub crosspoint : (outputs output : ℕ) → Option Parameter → Option (Parameter × Part)
+crosspoint outputs o (Some p) = cond (is_word p.row.kind && (leb 1 o && leb o outputs)) (Some (p, Output o)) None
+crosspoint outputs o None = None
 
 -- what groups name in the module m: numbers the whole parameter whose row has these indices; 4 and a pair (input, output) that output of the routing word 3>input;
 -- any other pair nothing
-unfoldable pub named : Module → Groups → ControlFound
+unfoldable pub named : Module → Groups → Option (Parameter × Part)
 named m (OneGroup (Single a)) = whole (with_indices (row.OneGroup a) (parameters_of m))
-named m (OneGroup (Pair a b)) = Nothing
+named m (OneGroup (Pair a b)) = None
 named m (TwoGroups (Single a) (Single b)) = whole (with_indices (row.TwoGroups a b) (parameters_of m))
-named m (TwoGroups (Single a) (Pair i o)) = cond (eqb a 4) (crosspoint m.layout.outputs o (with_indices (row.TwoGroups 3 i) (parameters_of m))) Nothing
-named m (TwoGroups (Pair a b) g) = Nothing
+named m (TwoGroups (Single a) (Pair i o)) = cond (eqb a 4) (crosspoint m.layout.outputs o (with_indices (row.TwoGroups 3 i) (parameters_of m))) None
+named m (TwoGroups (Pair a b) g) = None

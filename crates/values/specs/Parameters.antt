@@ -11,18 +11,14 @@ pub mod Owned
 pub mod Places
 pub mod Seeking
 pub mod Walk
-use Rattle.std.specs.Prelude.{cond, List, [], ◌∷◌, ◌++◌, ℕ, zero, suc, ◌+◌}
+use Rattle.std.specs.Prelude.{cond, List, [], ◌∷◌, ◌++◌, ℕ, zero, suc, ◌+◌, Option, Some, None}
 use Rattle.catalogue.specs.Catalogue.{rows_of}
 use Rattle.catalogue.specs.Row.{same_indices}
 use Rattle.room.specs.Table.{module_at, modules}
 use Rattle.catalogue.specs.declared.row.Indices.{Indices}
 use Rattle.catalogue.specs.declared.row.Row.{Row}
 use Rattle.room.specs.declared.table.Module.{Module}
-use Rattle.room.specs.declared.table.ModuleFound.{ModuleFound}
-use Rattle.room.specs.declared.table.ModuleFound.TheVariants as table
 use Rattle.values.specs.declared.parameter.Parameter.{Parameter}
-use Rattle.values.specs.declared.parameter.ParameterFound.{ParameterFound}
-use Rattle.values.specs.declared.parameter.ParameterFound.TheVariants.{At, Nothing}
 
 -- the rows of a module, numbered
 unfoldable pub numbered : Module → (number : ℕ) → List Row → List Parameter
@@ -46,21 +42,21 @@ unfoldable pub place : Parameter → ℕ
 place p = p.owner.first + p.number
 
 -- parameter k of a list, counted from 0
-unfoldable pub parameter_at : List Parameter → ℕ → ParameterFound
-parameter_at [] k = Nothing
-parameter_at (p ∷ ps) zero = At p
+unfoldable pub parameter_at : List Parameter → ℕ → Option Parameter
+parameter_at [] k = None
+parameter_at (p ∷ ps) zero = Some p
 parameter_at (p ∷ ps) (suc k) = parameter_at ps k
 
 -- the parameter of a list whose row has the indices i
-unfoldable pub with_indices : Indices → List Parameter → ParameterFound
-with_indices i [] = Nothing
-with_indices i (p ∷ ps) = cond (same_indices p.row.indices i) (At p) (with_indices i ps)
+unfoldable pub with_indices : Indices → List Parameter → Option Parameter
+with_indices i [] = None
+with_indices i (p ∷ ps) = cond (same_indices p.row.indices i) (Some p) (with_indices i ps)
 
 -- parameter j of the module that was found, counted from 0
-unfoldable pub row_at : ModuleFound → (row : ℕ) → ParameterFound
-row_at (table.At m) j = parameter_at (parameters_of m) j
-row_at table.Nothing j = Nothing
+unfoldable pub row_at : Option Module → (row : ℕ) → Option Parameter
+row_at (Some m) j = parameter_at (parameters_of m) j
+row_at None j = None
 
 -- the parameter of the table t by the numbers of its module and of its row, both counted from 0
-unfoldable pub by_row : List ℕ → (owner row : ℕ) → ParameterFound
+unfoldable pub by_row : List ℕ → (owner row : ℕ) → Option Parameter
 by_row t n j = row_at (module_at (modules t) n) j

@@ -1,78 +1,44 @@
 // What index groups name in a module: a parameter, and which part of it.
 ghost use Rattle.std.specs.Prelude.{true, ◌≡◌};
-ghost use Rattle.catalogue.specs.Catalogue.{fixed, known_layout, numbers};
+ghost use Rattle.catalogue.specs.Catalogue.{fixed, known_layout};
 ghost use Rattle.values.specs.Control.{crosspoint, is_word, named, whole};
 ghost use Rattle.values.specs.Parameters.{parameters_of, with_indices};
 ghost use Rattle.values.specs.Control.Seeking.{part_found, sought_by, sought_pair};
 
-use crate::parameter::{Parameter, ParameterFound, mixer_parameter};
+use crate::parameter::{Parameter, mixer_parameter};
 use catalogue::groups::{Group, Groups, Part};
-use catalogue::lent_row::listed_row;
+use catalogue::listed::listed_row;
 use catalogue::row::{Indices, Kind, same_indices};
 use catalogue::{is_fixed, row_count};
 use room::table::Module;
 
-// A parameter and the part of it, or that nothing is named.
-#[derive(Clone, Copy)]
-pub enum ControlFound {
-    At(Parameter, Part),
-    Nothing,
-}
-
-// What index groups seek in a module: a part of the row with these indices, or nothing.
-#[derive(Clone, Copy)]
-enum Sought {
-    Row(Indices, Part),
-    Nothing,
-}
-
 // The whole of a parameter.
-fn whole(found: ParameterFound) -> ControlFound
+fn whole(found: Option<Parameter>) -> Option<(Parameter, Part)>
     ensures { result ≡ whole found }
 {
-    match found {
-        ParameterFound::At(p) => ControlFound::At(p, Part::Whole),
-        ParameterFound::Nothing => ControlFound::Nothing,
-    }
+    Some((found?, Part::Whole))
 }
 
 // Whether a row is a routing word's.
 fn is_word(kind: Kind) -> bool
     ensures { result ≡ is_word kind }
 {
-    match kind {
-        Kind::Level => false,
-        Kind::Switch => false,
-        Kind::Number => false,
-        Kind::Word => true,
-    }
+    matches!(kind, Kind::Word)
 }
 
 // One of so many outputs of a routing word.
-fn crosspoint(outputs: u64, output: u64, found: ParameterFound) -> ControlFound
+fn crosspoint(outputs: u64, output: u64, found: Option<Parameter>) -> Option<(Parameter, Part)>
     ensures { result ≡ crosspoint outputs output found }
 {
-    match found {
-        ParameterFound::At(p) => {
-            let row = p.row;
-            let kind = row.kind;
-            if !is_word(kind) {
-                return ControlFound::Nothing;
-            }
-            if output < 1 {
-                return ControlFound::Nothing;
-            }
-            if outputs < output {
-                return ControlFound::Nothing;
-            }
-            ControlFound::At(p, Part::Output(output))
-        }
-        ParameterFound::Nothing => ControlFound::Nothing,
+    let p = found?;
+    if !is_word(p.row.kind) || output < 1 || outputs < output {
+        return None;
     }
+    Some((p, Part::Output(output)))
 }
 
 // The part of what was found.
-fn part_found(outputs: u64, part: Part, found: ParameterFound) -> ControlFound
+fn part_found(outputs: u64, part: Part, found: Option<Parameter>) -> Option<(Parameter, Part)>
     ensures { result ≡ part_found outputs part found }
 {
     match part {
@@ -82,44 +48,43 @@ fn part_found(outputs: u64, part: Part, found: ParameterFound) -> ControlFound
 }
 
 // What two groups seek of which the second is a pair.
-fn sought_pair(first: u64, input: u64, output: u64) -> Sought
+fn sought_pair(first: u64, input: u64, output: u64) -> Option<(Indices, Part)>
     ensures { result ≡ sought_pair first input output }
 {
     if first == 4 {
-        return Sought::Row(Indices::TwoGroups(3, input), Part::Output(output));
+        return Some((Indices::TwoGroups(3, input), Part::Output(output)));
     }
-    Sought::Nothing
+    None
 }
 
 // What groups seek.
-fn sought_by(groups: Groups) -> Sought
+fn sought_by(groups: Groups) -> Option<(Indices, Part)>
     ensures { result ≡ sought_by groups }
 {
     match groups {
         Groups::OneGroup(g) => match g {
-            Group::Single(a) => Sought::Row(Indices::OneGroup(a), Part::Whole),
-            Group::Pair(_, _) => Sought::Nothing,
+            Group::Single(a) => Some((Indices::OneGroup(a), Part::Whole)),
+            Group::Pair(_, _) => None,
         },
         Groups::TwoGroups(g, h) => match g {
             Group::Single(a) => match h {
-                Group::Single(b) => Sought::Row(Indices::TwoGroups(a, b), Part::Whole),
+                Group::Single(b) => Some((Indices::TwoGroups(a, b), Part::Whole)),
                 Group::Pair(i, o) => sought_pair(a, i, o),
             },
-            Group::Pair(_, _) => Sought::Nothing,
+            Group::Pair(_, _) => None,
         },
     }
 }
 
 // The whole of the parameter whose row has the indices, in a module that is no mixer.
-fn listed_whole(rows: &[[i32; 8]; 50], m: Module, indices: Indices) -> ControlFound
-    requires { (rows.now ≡ numbers) × (known_layout m.layout ≡ true) × (fixed m.layout.kind ≡ true) }
+fn listed_whole(m: Module, indices: Indices) -> Option<(Parameter, Part)>
+    requires { (known_layout m.layout ≡ true) × (fixed m.layout.kind ≡ true) }
     ensures { result ≡ whole (with_indices indices (parameters_of m)) }
 {
     let layout = m.layout;
     let count = row_count(layout);
-    let mut j = 0;
-    while j < count {
-        let row = listed_row(rows, layout, j);
+    for j in 0..count {
+        let row = listed_row(layout, j);
         let have = row.indices;
         if same_indices(have, indices) {
             let found = Parameter {
@@ -127,37 +92,32 @@ fn listed_whole(rows: &[[i32; 8]; 50], m: Module, indices: Indices) -> ControlFo
                 number: j,
                 row,
             };
-            return ControlFound::At(found, Part::Whole);
+            return Some((found, Part::Whole));
         }
-        j += 1;
     }
-    ControlFound::Nothing
+    None
 }
 
 // What is sought in a module that is no mixer: none of its rows has outputs.
-fn listed_part(rows: &[[i32; 8]; 50], m: Module, indices: Indices, part: Part) -> ControlFound
-    requires { (rows.now ≡ numbers) × (known_layout m.layout ≡ true) × (fixed m.layout.kind ≡ true) }
+fn listed_part(m: Module, indices: Indices, part: Part) -> Option<(Parameter, Part)>
+    requires { (known_layout m.layout ≡ true) × (fixed m.layout.kind ≡ true) }
     ensures { result ≡ part_found m.layout.outputs part (with_indices indices (parameters_of m)) }
 {
     match part {
-        Part::Whole => listed_whole(rows, m, indices),
-        Part::Output(_) => ControlFound::Nothing,
+        Part::Whole => listed_whole(m, indices),
+        Part::Output(_) => None,
     }
 }
 
-// What index groups name in a module: in a mixer the row's number is computed, in another module it is sought.
-pub fn named(rows: &[[i32; 8]; 50], m: Module, groups: Groups) -> ControlFound
-    requires { (rows.now ≡ numbers) × (known_layout m.layout ≡ true) }
+// What index groups name in a module, and which part of it: in a mixer the row's number is computed, in another module it is sought.
+pub fn named(m: Module, groups: Groups) -> Option<(Parameter, Part)>
+    requires { known_layout m.layout ≡ true }
     ensures { result ≡ named m groups }
 {
-    match sought_by(groups) {
-        Sought::Row(indices, part) => {
-            let layout = m.layout;
-            if is_fixed(layout.kind) {
-                return listed_part(rows, m, indices, part);
-            }
-            part_found(layout.outputs as u64, part, mixer_parameter(m, indices))
-        }
-        Sought::Nothing => ControlFound::Nothing,
+    let (indices, part) = sought_by(groups)?;
+    let layout = m.layout;
+    if is_fixed(layout.kind) {
+        return listed_part(m, indices, part);
     }
+    part_found(layout.outputs as u64, part, mixer_parameter(m, indices))
 }

@@ -9,53 +9,47 @@ pub mod parameter;
 pub mod starts;
 
 ghost use Rattle.std.specs.Prelude.{true, ◌≡◌};
-ghost use Rattle.catalogue.specs.Catalogue.{numbers};
+ghost use Rattle.room.specs.Refusal.{number_of};
 ghost use Rattle.room.specs.Table.{sound};
 ghost use Rattle.values.specs.Room.{room_of};
 ghost use Rattle.values.specs.Values.{values_number, values_sound};
 
 use crate::module_values::module_fits;
 use catalogue::{ROWS, row_count};
-use record::body::body_length;
-use record::layout::layout_at;
+use room::modules::modules_of;
+use room::refusal::Refusal;
 use room::table::MODULES;
 
 // How many values a table may have.
 pub const VALUES: usize = MODULES * ROWS;
 
 // Whether a list has one entry for each parameter, and each is permitted.
-fn are_sound(table: &[u8], rows: &[[i32; 8]; 50], values: &[i64]) -> bool
-    requires { (sound table.now ≡ true) × (rows.now ≡ numbers) }
+fn are_sound(table: &[u8], values: &[i64]) -> bool
+    requires { sound table.now ≡ true }
     ensures { result ≡ values_sound (room_of table.now) values.now }
 {
-    // Only the proof needs the number of the records passed.
-    let mut number: usize = 0;
-    let mut place = 0;
-    let mut first = 0;
-    while place < table.len() {
-        let layout = layout_at(table, place);
-        let count = row_count(layout);
-        if values.len() - first < count {
+    let mut end = 0;
+    for m in modules_of(table) {
+        let count = row_count(m.layout);
+        if values.len() - m.first < count {
             return false;
         }
-        let end = first + count;
-        if !module_fits(rows, layout, &values[first..end]) {
+        end = m.first + count;
+        if !module_fits(m.layout, &values[m.first..end]) {
             return false;
         }
-        number += 1;
-        place = place + 1 + body_length(layout.kind);
-        first = end;
     }
-    first == values.len()
+    end == values.len()
 }
 
-// The number that a call on a list tells: 0 for a right one, and else its refusal's number.
-pub fn values_number(table: &[u8], rows: &[[i32; 8]; 50], values: &[i64]) -> u8
-    requires { (sound table.now ≡ true) × (rows.now ≡ numbers) }
-    ensures { result ≡ values_number (room_of table.now) values.now }
+// Refuses a list that does not have one permitted value for each parameter.
+#[tactic(auto, unfolding(crate::specs::Values::values_number))]
+pub fn check_values(table: &[u8], values: &[i64]) -> Result<(), Refusal>
+    requires { sound table.now ≡ true }
+    ensures { number_of result ≡ values_number (room_of table.now) values.now }
 {
-    if are_sound(table, rows, values) {
-        return 0;
+    if are_sound(table, values) {
+        return Ok(());
     }
-    2
+    Err(Refusal::Values)
 }

@@ -11,12 +11,10 @@ pub fn mixer_fits(inputs: u64, outputs: u64, values: &[i64]) -> bool
     requires values_len { length values.now ≡ length (mixer_rows inputs outputs) }
     ensures { result ≡ rows_permit (mixer_rows inputs outputs) values.now }
 {
-    let mut j = 0;
-    while j < values.len() {
-        if !mixer_permits(inputs, outputs, j as u64, values[j]) {
+    for (j, v) in values.iter().enumerate() {
+        if !mixer_permits(inputs, outputs, j as u64, *v) {
             return false;
         }
-        j += 1;
     }
     true
 }

@@ -6,7 +6,8 @@ pub mod Settable
 pub mod Sizing
 pub mod Telling
 pub mod Wanted
-use Rattle.std.specs.Prelude.{Bool, true, false, cond, ◌&&◌, ◌≡◌, List, [], ◌∷◌, ◌++◌, ℕ, zero, suc, leb, ℤ, length}
+use Rattle.std.specs.Prelude.{Bool, true, false, cond, ◌&&◌, ◌≡◌, List, [], ◌∷◌, ◌++◌, ℕ, zero, suc, leb, ℤ, length, Option, Some, None}
+use Rattle.room.specs.declared.table.Module.{Module}
 use Rattle.std.proofs.lemmas.List.Edits.{sets}
 use Rattle.room.specs.Refusal.{first_refusal}
 use Rattle.room.specs.Table.{sound, table_number}
@@ -15,8 +16,6 @@ use Rattle.values.specs.Parameters.{parameters}
 use Rattle.values.specs.Room.{Room}
 use Rattle.values.specs.Values.{values_number, values_sound, equal}
 use Rattle.values.specs.declared.parameter.Parameter.{Parameter}
-use Rattle.room.specs.declared.label.Bearer.{Bearer}
-use Rattle.room.specs.declared.label.Bearer.TheVariants.{Only, NotOne}
 use Rattle.spelling.specs.Say.{say}
 use Rattle.wish.specs.Target.{Wish, selection_right, wanted_right, target}
 
@@ -48,9 +47,9 @@ listing t [] = []
 listing t (c ∷ cs) = line_of t c ++ listing t cs
 
 -- exactly one module bears the label
-unfoldable pub borne_once : Bearer → Bool
-borne_once (Only m) = true
-borne_once NotOne = false
+unfoldable pub borne_once : Option Module → Bool
+borne_once (Some m) = true
+borne_once None = false
 
 -- a line can set the parameter: its row is not read-only, and no other module bears its module's label
 unfoldable pub reachable : (table : List ℕ) → Parameter → Bool

@@ -2,7 +2,7 @@
 pub mod Telling
 use Rattle.std.specs.Prelude.{◌≡◌, Bool, ◌&&◌, List, ℕ, eqb, length, take}
 use Rattle.room.specs.Label.{same}
-use Rattle.restore.specs.declared.Restored.{Restored}
+use Rattle.restore.specs.Restored.{Restored}
 use Rattle.wish.specs.Listing.{Told, restore}
 use Rattle.wish.specs.Target.{Wish}
 

@@ -1,20 +1,31 @@
 // The writing restore call, compared with what it must tell and write.
 ghost use Rattle.std.specs.Prelude.{◌≡◌};
+ghost use Rattle.restore.specs.Restored.{restored};
 ghost use Rattle.wish.specs.Target.{wish_of};
 ghost use Rattle.worked.specs.Restored.{Compares, list_right, told};
 
 use crate::compare::same_bytes;
-use restore::{Restored, restore_write};
+use restore::restore_write;
+use restore_list::module_measuring::Size;
+use room::refusal::{Refusal, number_of};
 
-// Whether a restore call that left its list in this buffer told this number, and this list with so many lines.
-fn told_right(restored: Restored, buffer: &[u8], number: u8, lines: usize, list: &[u8]) -> bool
-    ensures { result ≡ list_right (told restored buffer.now) number lines list.now }
+// Whether a restore call that left its list in this buffer told this number, and this list with so many lines; a refusal counts zero.
+#[tactic(auto, using(crate::specs::Restored::Telling::telling))]
+fn told_right(
+    sized: Result<Size, Refusal>,
+    buffer: &[u8],
+    number: u8,
+    lines: usize,
+    list: &[u8],
+) -> bool
+    ensures { result ≡ list_right (told (restored sized) buffer.now) number lines list.now }
 {
-    let bytes = restored.bytes;
-    if restored.number != number {
+    let size = sized.unwrap_or(Size { bytes: 0, lines: 0 });
+    let bytes = size.bytes;
+    if number_of(sized) != number {
         return false;
     }
-    if restored.lines != lines {
+    if size.lines != lines {
         return false;
     }
     if bytes != list.len() {
@@ -39,6 +50,6 @@ pub(crate) fn list_right(
 ) -> bool
     ensures { Compares (wish_of table.now present.now selection.now wanted.now) buffer.old number lines list.now result buffer.new }
 {
-    let restored = restore_write(table, present, selection, wanted, buffer);
-    told_right(restored, buffer, number, lines, list)
+    let sized = restore_write(table, present, selection, wanted, buffer);
+    told_right(sized, buffer, number, lines, list)
 }

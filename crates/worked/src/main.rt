@@ -12,17 +12,23 @@ mod say;
 ghost use Rattle.std.specs.Prelude.{◌≤◌};
 
 use argument::{argument, argument_count};
-use file::{read_file, table_buffer, text_buffer};
+use file::read_file;
 use lists::list_right;
 use play::play_script;
 use say::{say_list, say_tally};
 use std::rt::{Env, Files};
 
+// How many bytes a table may have.
+const TABLE: usize = 2240;
+
+// Room for a name, a script or a list.
+const TEXT: usize = 4096;
+
 // Plays the script of a file on the table of another, and says what came of it.
 fn play_file(rt: &(impl Files + Print), table: &[u8], script: &[u8]) {
-    let mut records = table_buffer();
+    let mut records = [0; TABLE];
     let n = read_file(rt, table, &mut records);
-    let mut text = text_buffer();
+    let mut text = [0; TEXT];
     let m = read_file(rt, script, &mut text);
     let tally = play_script(&records[..n], &text[..m]);
     say_tally(rt, script, &records[..n], &text[..m], tally);
@@ -30,9 +36,9 @@ fn play_file(rt: &(impl Files + Print), table: &[u8], script: &[u8]) {
 
 // The same for the files that two arguments name.
 fn play_arguments(rt: &(impl Files + Env + Print), i: usize, j: usize) {
-    let mut table = text_buffer();
+    let mut table = [0; TEXT];
     let n = argument(rt, i, &mut table);
-    let mut script = text_buffer();
+    let mut script = [0; TEXT];
     let m = argument(rt, j, &mut script);
     play_file(rt, &table[..n], &script[..m]);
 }
@@ -49,7 +55,7 @@ fn list_file(
 )
     requires { room ≤ 64 }
 {
-    let mut text = text_buffer();
+    let mut text = [0; TEXT];
     let n = read_file(rt, file, &mut text);
     let mut buffer = [0u8; 64];
     let right = list_right(
@@ -67,7 +73,7 @@ fn list_file(
 
 // The lists on table A: T and S, with room for 43 bytes and for 42; S alone; and one that is expected wrongly.
 fn list_files(rt: &(impl Files + Print)) {
-    let mut records = table_buffer();
+    let mut records = [0; TABLE];
     let n = read_file(rt, b"a.table", &mut records);
     let table = &records[..n];
     list_file(rt, table, 1, 43, 0, 4, b"both.list");
@@ -78,10 +84,8 @@ fn list_files(rt: &(impl Files + Print)) {
 
 fn main(rt: HostRuntime) {
     let pairs = argument_count(&rt) / 2;
-    let mut k = 0;
-    while k < pairs {
+    for k in 0..pairs {
         play_arguments(&rt, 2 * k + 1, 2 * k + 2);
-        k += 1;
     }
     list_files(&rt);
 }

@@ -2,12 +2,11 @@
 ghost use Rattle.std.specs.Prelude.{true, ◌≡◌, ◌≤◌, length};
 ghost use Rattle.room.specs.Table.{sound};
 ghost use Rattle.values.specs.Room.{room_of};
-ghost use Rattle.values.specs.Values.{value_limit, values_sound};
+ghost use Rattle.values.specs.Values.{values_sound};
 ghost use Rattle.worked.specs.Script.{Plays, outcome, tally, told};
 ghost use Rattle.worked.specs.Script.{through as script_through};
 
 use crate::compare::same_bytes;
-use catalogue::table::all_rows;
 use room::table::is_sound;
 use serial_port::port::Port;
 use text::cut::find;
@@ -67,6 +66,7 @@ fn play_lines(table: &[u8], values: &mut [i64], script: &[u8]) -> Tally
     let mut port = Port::fresh();
     let mut at = 0;
     let mut right = 0;
+    // The next line begins where the last one ended, and lines differ in length.
     while at < script.len() {
         let played = play_line(table, values, port, &script[at..]);
         if !played.right {
@@ -79,13 +79,6 @@ fn play_lines(table: &[u8], values: &mut [i64], script: &[u8]) -> Tally
     Tally { right, at }
 }
 
-// As many values as a table may have.
-fn value_list() -> [i64; VALUES]
-    ensures { value_limit ≡ length result }
-{
-    [0; VALUES]
-}
-
 // Plays a script on a table, from its start values on.
 pub(crate) fn play_script(table: &[u8], script: &[u8]) -> Tally
     ensures { result ≡ tally table.now script.now }
@@ -93,8 +86,7 @@ pub(crate) fn play_script(table: &[u8], script: &[u8]) -> Tally
     if !is_sound(table) {
         return Tally { right: 0, at: 0 };
     }
-    let rows = all_rows();
-    let mut space = value_list();
-    let count = fill_starts(table, &rows, &mut space);
+    let mut space = [0; VALUES];
+    let count = fill_starts(table, &mut space);
     play_lines(table, &mut space[..count], script)
 }

@@ -5,7 +5,7 @@ use Rattle.std.specs.Int.{w64}
 use Rattle.values.specs.Room.{Room}
 use Rattle.panel.specs.Panel.{Changes}
 use Rattle.panel.specs.Panel.Laws.{told-field}
-use Rattle.panel.specs.declared.Changed.{Changed}
+use Rattle.panel.specs.Panel.{Changed}
 use Rattle.capi.specs.Panel.{counted, panel_answer, panel_tells}
 
 pub panel-told : (r : Room) (vs : List ℤ) (reply : List ℕ) (owner row : ℕ) (x : ℤ) (c : Changed) (vs' : List ℤ) (reply' : List ℕ) → SFits w64 x

@@ -1,11 +1,10 @@
 -- Laws of the port call for C: the fresh port's bytes, what a refusal and a call given no bytes leave, and that one call's port serves the next.
-use Rattle.std.specs.Prelude.{◌≡◌, List, [], ◌∷◌, ℕ, suc, ◌≤◌, ℤ, length, get_or, replicate}
+use Rattle.std.specs.Prelude.{◌≡◌, List, [], ◌∷◌, ℕ, suc, ◌≤◌, ℤ, length, get_or, replicate, None}
 use Rattle.std.proofs.Math.Path.{refl, sym}
 use Rattle.std.proofs.Common.{◌∙◌, ap}
 use Rattle.syntax.specs.Shape.{line_limit}
 use Rattle.values.specs.Room.{Room}
 use Rattle.line.specs.Fault.Laws.{none_numbers}
-use Rattle.line.specs.declared.fault.Fault.TheVariants.{Nothing}
 use Rattle.serial_port.specs.Port.{fresh, view}
 use Rattle.serial_port.specs.Port.Seen.{seen_fresh}
 use Rattle.serial_port.specs.Call.{step}
@@ -28,12 +27,12 @@ module _ (r : Room) (vs : List ℤ) (port reply : List ℕ) where
   pub answer-refused : (given : List ℕ) (n : ℕ) → call_number r vs (length reply) (port_of port).len ≡ suc n
       → port_answer r vs port given reply ≡ port_tells (suc n) (0 ∷ 0 ∷ 0 ∷ 0 ∷ []) vs reply
   unfolding port_answer counted
-  answer-refused given n e = rw (refused-told r vs (port_of port) given reply n e, ← none_numbers Nothing refl) refl
+  answer-refused given n e = rw (refused-told r vs (port_of port) given reply n e, ← none_numbers None refl) refl
 
   -- nor does a call that is given no bytes
   pub answer-nothing : call_number r vs (length reply) (port_of port).len ≡ 0 → port_answer r vs port [] reply ≡ port_tells 0 (0 ∷ 0 ∷ 0 ∷ 0 ∷ []) vs reply
   unfolding port_answer counted
-  answer-nothing e = rw (nothing_told r vs (port_of port) reply e, ← none_numbers Nothing refl) refl
+  answer-nothing e = rw (nothing_told r vs (port_of port) reply e, ← none_numbers None refl) refl
 
 -- ---- the two parts of the promise
 

@@ -3,7 +3,7 @@ use Rattle.std.specs.Prelude.{◌≡◌, List, [], ◌∷◌, ℕ}
 use Rattle.restore.specs.Demand.{Restores, Sizes}
 use Rattle.restore.proofs.Laws.Demand.Telling.{size-field, told-field}
 use Rattle.wish.specs.Target.{Wish}
-use Rattle.restore.specs.declared.Restored.{Restored}
+use Rattle.restore.specs.Restored.{Restored}
 use Rattle.capi.specs.Restore.{counted, restore_answer, restore_tells, size_answer, size_counted, size_tells}
 
 pub size_told_lem : (w : Wish) (r : Restored) → Sizes w r → size_tells r.number (r.bytes ∷ r.lines ∷ []) ≡ size_answer w

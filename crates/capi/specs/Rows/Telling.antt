@@ -1,5 +1,5 @@
 -- Rules for the calls on a table's values and rows.
-use Rattle.std.specs.Prelude.{◌≡◌, Bool, true, false, not, ℕ, ◌+◌, ◌^◌, ◌≤◌, ◌<◌, ℤ, pos, negsuc}
+use Rattle.std.specs.Prelude.{◌≡◌, Bool, true, false, not, ℕ, ◌+◌, ◌^◌, ◌≤◌, ◌<◌, ℤ, pos, negsuc, Option, Some, None}
 use Rattle.std.proofs.Math.Path.{refl, sym, ap}
 use Rattle.std.proofs.Common.{◌∙◌, arith, drop_of_length-le, Fits, SFits, to_z}
 use mathlib.Core.List.{List, [], ◌∷◌, ◌++◌, append-nil}
@@ -29,8 +29,6 @@ use Rattle.values.specs.Starts.{Started, starts}
 use Rattle.values.specs.Starts.Filling.{length-starts}
 use Rattle.values.specs.Values.Few.{place-few}
 use Rattle.values.specs.declared.parameter.Parameter.{Parameter}
-use Rattle.values.specs.declared.parameter.ParameterFound.{ParameterFound}
-use Rattle.values.specs.declared.parameter.ParameterFound.TheVariants.{At, Nothing}
 use Rattle.capi.specs.Rows.{Told, count_answer, count_number, first_index, kind_number, of_row, over_table, place_answer, row_answer, row_numbers, second_index, seven_zeros, starts_answer, starts_number, tells}
 
 -- indices far within 64 bits
@@ -163,17 +161,17 @@ module _ (t : List ℕ) (b : Bool) (e : b ≡ sound t) where
     unfolding row_answer seven_zeros
     row_refused h = sym (over_unsound seven_zeros _ h)
 
-    module _ (f : ParameterFound) (q : f ≡ by_row t n j) (h : not b ≡ false) where
-      pub place_none : f ≡ Nothing → tells 9 (0 ∷ []) ≡ place_answer t n j
+    module _ (f : Option Parameter) (q : f ≡ by_row t n j) (h : not b ≡ false) where
+      pub place_none : f ≡ None → tells 9 (0 ∷ []) ≡ place_answer t n j
       unfolding place_answer of_row
       place_none z = rw (sym q ∙ z) (sym (over_sound (0 ∷ []) _ h))
 
-      pub row_none : f ≡ Nothing → tells 9 (pos 0 ∷ pos 0 ∷ pos 0 ∷ pos 0 ∷ pos 0 ∷ pos 0 ∷ pos 0 ∷ []) ≡ row_answer t n j
+      pub row_none : f ≡ None → tells 9 (pos 0 ∷ pos 0 ∷ pos 0 ∷ pos 0 ∷ pos 0 ∷ pos 0 ∷ pos 0 ∷ []) ≡ row_answer t n j
       unfolding row_answer seven_zeros of_row
       row_none z = rw (sym q ∙ z) (sym (over_sound seven_zeros _ h))
 
-      module _ (p : Parameter) (z : f ≡ At p) where
-        stands : parameter_at (parameters t) (place p) ≡ At p
+      module _ (p : Parameter) (z : f ≡ Some p) where
+        stands : parameter_at (parameters t) (place p) ≡ Some p
         stands = (by_row-told t n j p (sym q ∙ z)).listed
 
         pub place-told : tells 0 ((p.owner.first + p.number) ∷ []) ≡ place_answer t n j

@@ -1,18 +1,15 @@
 -- Laws of a turn for C: what one tells that serves nobody, and that it keeps the promise of a turn, so that what is proved of turns holds of it.
-use Rattle.std.specs.Prelude.{◌≡◌, cond, List, [], ◌∷◌, ℕ, suc, eqb, ℤ, get_or}
+use Rattle.std.specs.Prelude.{◌≡◌, cond, List, [], ◌∷◌, ℕ, suc, eqb, ℤ, get_or, None, Option, Some}
 use Rattle.std.proofs.Math.Path.{refl, sym, ap}
 use Rattle.std.proofs.Common.{◌∙◌}
 use Rattle.std.proofs.Math.ListN.{length, set}
 use Rattle.values.specs.Room.{Room}
 use Rattle.line.specs.Fault.Laws.{none_numbers}
-use Rattle.line.specs.declared.fault.Fault.TheVariants.{Nothing}
 use Rattle.connections.specs.Round.{last_after}
 use Rattle.connections.proofs.Laws.Round.Seeking.{last_nobody, last_one}
 use Rattle.connections.specs.Turn.{Asked, Told, Turns, chosen, turn, turn_number}
 use Rattle.connections.proofs.Laws.Turn.Kept.{Leaves, leaves_all, leaves_others, nobody_told, refused-told, served-place, turn-kept}
 use Rattle.connections.proofs.Laws.Turn.Laws.{turn_number_lem}
-use Rattle.connections.specs.declared.round.Served.{Served}
-use Rattle.connections.specs.declared.round.Served.TheVariants.{Nobody, One}
 use Rattle.capi.specs.Connections.{connection_of, row_of}
 use Rattle.capi.specs.Connections.Places.{row_size, row_stored}
 use Rattle.capi.specs.Port.{PortAnswer, port_tells}
@@ -23,27 +20,27 @@ module _ (r : Room) (a : Asked) where
   -- a refusal counts zero, and changes neither the values nor the reply buffer
   pub answer-refused : (n : ℕ) → turn_number r a ≡ suc n → turn_answer r a ≡ port_tells (suc n) (0 ∷ 0 ∷ 0 ∷ 0 ∷ 0 ∷ 0 ∷ []) a.values a.buffer
   unfolding turn_answer counted told_numbers served_numbers
-  answer-refused n e = rw (refused-told r a n e, ← (none_numbers Nothing refl)) refl
+  answer-refused n e = rw (refused-told r a n e, ← (none_numbers None refl)) refl
 
   -- nor does a turn with nobody waiting
-  pub answer-nobody : turn_number r a ≡ 0 → chosen a ≡ Nobody → turn_answer r a ≡ port_tells 0 (0 ∷ 0 ∷ 0 ∷ 0 ∷ 0 ∷ 0 ∷ []) a.values a.buffer
+  pub answer-nobody : turn_number r a ≡ 0 → chosen a ≡ None → turn_answer r a ≡ port_tells 0 (0 ∷ 0 ∷ 0 ∷ 0 ∷ 0 ∷ 0 ∷ []) a.values a.buffer
   unfolding turn_answer counted told_numbers served_numbers
-  answer-nobody e q = rw (nobody_told r a e q, ← (none_numbers Nothing refl)) refl
+  answer-nobody e q = rw (nobody_told r a e q, ← (none_numbers None refl)) refl
 
 module _ (r : Room) (a : Asked) (row row' : List ℕ) (said : a.row ≡ row_of row) where
   -- the row that the bytes say is left as a turn leaves it
-  leaves : (s : Served) → (turn r a).served ≡ s → Left r a s row row' → Leaves r a (row_of row') s
+  leaves : (s : Option ℕ) → (turn r a).served ≡ s → Left r a s row row' → Leaves r a (row_of row') s
   unfolding connection_of
-  leaves Nobody e same = leaves_all (ap row_of same ∙ sym said)
-  leaves (One i) e (put_back port size stores placed) =
+  leaves None e same = leaves_all (ap row_of same ∙ sym said)
+  leaves (Some i) e (put_back port size stores placed) =
       let at = served-place r a i e in
       let n : length (1 ∷ port) ≡ 67 = rw size refl in
       leaves_others i (connection_of (1 ∷ port)) (ap row_of placed ∙ row_stored row (1 ∷ port) i (row_size row (sym (ap length said) ∙ at.0)) at.1 n ∙ ap (λ row. set row i (connection_of (1 ∷ port))) (sym said)) refl stores.seen (claim-said port stores.few)
 
-last_told : (last : ℕ) (t : Told) (s : Served) → t.served ≡ s → last_after last t.served ≡ cond (eqb (get_or (told_numbers t) 0 0) 1) (get_or (told_numbers t) 1 0) last
+last_told : (last : ℕ) (t : Told) (s : Option ℕ) → t.served ≡ s → last_after last t.served ≡ cond (eqb (get_or (told_numbers t) 0 0) 1) (get_or (told_numbers t) 1 0) last
 unfolding told_numbers served_numbers
-last_told last t Nobody e = rw e (sym (last_nobody last Nobody refl))
-last_told last t (One i) e = rw e (sym (last_one last i (One i) refl))
+last_told last t None e = rw e (sym (last_nobody last None refl))
+last_told last t (Some i) e = rw e (sym (last_one last i (Some i) refl))
 
 module _ {r : Room} {vs : List ℤ} {row : List ℕ} {last : ℕ} {given counts reply : List ℕ} {g : ℕ} {vs' : List ℤ} {row' reply' told' : List ℕ} where
   -- the two parts of the promise

@@ -1,11 +1,10 @@
 -- Rules for the code of a turn: one for each way to return, and what it asks of the functions that it calls.
-use Rattle.std.specs.Prelude.{◌≡◌, refl, Bool, List, [], ◌∷◌, ℕ, ◌≤◌, ◌<◌, ℤ, length, get_or}
+use Rattle.std.specs.Prelude.{◌≡◌, refl, Bool, List, [], ◌∷◌, ℕ, ◌≤◌, ◌<◌, ℤ, length, get_or, None, Option, Some}
 use Rattle.std.proofs.Common.{sym, ◌∙◌, ap}
 use Rattle.values.specs.Room.{Room}
 use Rattle.syntax.specs.Shape.{line_limit}
 use Rattle.line.specs.Fault.{fault_numbers}
 use Rattle.line.specs.Fault.Laws.{none_numbers, two_numbers}
-use Rattle.line.specs.declared.fault.Fault.TheVariants.{Nothing}
 use Rattle.serial_port.specs.Call.{step}
 use Rattle.serial_port.specs.Port.{view}
 use Rattle.serial_port.specs.Server.{control_space}
@@ -17,8 +16,6 @@ use Rattle.connections.proofs.Laws.Turn.Picking.{picked-below}
 use Rattle.connections.specs.Turn.Single.{TurnsOne}
 use Rattle.connections.proofs.Laws.Turn.TakenOut.{Back, misfit_told, taken_back, taken_field, taken_nobody}
 use Rattle.connections.specs.declared.connection.Connection.{Connection}
-use Rattle.connections.specs.declared.round.Served.{Served}
-use Rattle.connections.specs.declared.round.Served.TheVariants.{Nobody, One}
 use Rattle.connections.specs.declared.survey.Survey.{Survey}
 use Rattle.connections.specs.declared.turning.TurnedOne.{TurnedOne}
 use Rattle.capi.specs.Connections.{row_of}
@@ -46,7 +43,7 @@ picked-turn r vs row last given counts reply d vs' reply' s k c h out q e = turn
 pub ruleset picking = (pick_place, picked-turn)
 
 -- nobody is served: the row stays
-left_nobody : (r : Room) (a : Asked) (s : Served) (row : List ℕ) → Nobody ≡ s → Left r a s row row
+left_nobody : (r : Room) (a : Asked) (s : Option ℕ) (row : List ℕ) → None ≡ s → Left r a s row row
 left_nobody r a s row e = rw (← e) refl
 
 -- ---- a turn over another number of bytes
@@ -57,7 +54,7 @@ unfolding turn_answer counted told_numbers served_numbers
 turn-bytes r vs row last given counts reply h =
     let a = asked_of row last counts given vs reply in
     let q = misfit_told r a (no_thirty_two row h) in
-    called (rw (q, ← (none_numbers Nothing refl)) refl) (left_nobody r a (turn r a).served row (sym (ap (λ (t : Told). t.served) q)))
+    called (rw (q, ← (none_numbers None refl)) refl) (left_nobody r a (turn r a).served row (sym (ap (λ (t : Told). t.served) q)))
 
 -- ---- a turn over 32 connections
 
@@ -76,41 +73,41 @@ module _ (r : Room) (vs : List ℤ) (row : List ℕ) (last : ℕ) (given counts 
           ≡ f (turn r a)
       go (turns_picked k s e q t) = taken_field r a s k (get_or (row_of row) k closed) d vs' reply' (row_length row long) e q refl t f
 
-  nobody : d.turned.served ≡ Nobody → record { number = d.turned.number; served = Nobody; consumed = 0; sent = 0; fault = Nothing; values = vs'; buffer = reply' } ≡ turn r a
+  nobody : d.turned.served ≡ None → record { number = d.turned.number; served = None; consumed = 0; sent = 0; fault = None; values = vs'; buffer = reply' } ≡ turn r a
   nobody w = go h
     where
       go : TurnsPicked r vs row last given counts reply d vs' reply'
-          → record { number = d.turned.number; served = Nobody; consumed = 0; sent = 0; fault = Nothing; values = vs'; buffer = reply' } ≡ turn r a
+          → record { number = d.turned.number; served = None; consumed = 0; sent = 0; fault = None; values = vs'; buffer = reply' } ≡ turn r a
       go (turns_picked k s e q t) = taken_nobody r a s k (get_or (row_of row) k closed) d vs' reply' (row_length row long) e q refl t w
 
-  back : (i : ℕ) → d.turned.served ≡ One i → Back r a i d.connection.port
+  back : (i : ℕ) → d.turned.served ≡ Some i → Back r a i d.connection.port
   back i w = go h
     where
       go : TurnsPicked r vs row last given counts reply d vs' reply' → Back r a i d.connection.port
       go (turns_picked k s e q t) = taken_back r a s k (get_or (row_of row) k closed) d vs' reply' (row_length row long) e q refl t i w
 
-  pub served-place : (i : ℕ) → d.turned.served ≡ One i → i < 32
+  pub served-place : (i : ℕ) → d.turned.served ≡ Some i → i < 32
   served-place i w = (back i w).place
 
-  pub served-few : (i : ℕ) → d.turned.served ≡ One i → d.connection.port.len ≤ 64
+  pub served-few : (i : ℕ) → d.turned.served ≡ Some i → d.connection.port.len ≤ 64
   unfolding line_limit
   served-few i w = (back i w).few
 
-  pub turn-nobody : d.turned.served ≡ Nobody → TurnCalled r vs row last given counts reply d.turned.number vs' row reply' (0 ∷ 0 ∷ 0 ∷ 0 ∷ 0 ∷ 0 ∷ [])
+  pub turn-nobody : d.turned.served ≡ None → TurnCalled r vs row last given counts reply d.turned.number vs' row reply' (0 ∷ 0 ∷ 0 ∷ 0 ∷ 0 ∷ 0 ∷ [])
   unfolding turn_answer counted told_numbers served_numbers
   turn-nobody w =
       let z = nobody w in
-      called (rw (← z, ← (none_numbers Nothing refl)) refl) (left_nobody r a (turn r a).served row (ap (λ (t : Told). t.served) z))
+      called (rw (← z, ← (none_numbers None refl)) refl) (left_nobody r a (turn r a).served row (ap (λ (t : Told). t.served) z))
 
   -- the row's bytes where connection i was served
-  left_served : (i : ℕ) (x : Served) (row' : List ℕ) → One i ≡ x → Back r a i d.connection.port → StoresServed row i d.connection.port row' → Left r a x row row'
+  left_served : (i : ℕ) (x : Option ℕ) (row' : List ℕ) → Some i ≡ x → Back r a i d.connection.port → StoresServed row i d.connection.port row' → Left r a x row row'
   left_served i x row' w b (stores_served size placed) =
       let p = d.connection.port in
       let v = (step (control_space r) vs (view (port_at (row_of row) i)) (bytes_of a i)).port in
       let put : PutBack row i v row' = put_back (stored_bytes p) size (stored p v b.seen b.few) placed in
       rw (← w) put
 
-  pub turn-served : (i : ℕ) (ns row' : List ℕ) → d.turned.served ≡ One i → ns ≡ fault_numbers d.turned.fault → StoresServed row i d.connection.port row'
+  pub turn-served : (i : ℕ) (ns row' : List ℕ) → d.turned.served ≡ Some i → ns ≡ fault_numbers d.turned.fault → StoresServed row i d.connection.port row'
       → TurnCalled r vs row last given counts reply d.turned.number vs' row' reply' (1 ∷ i ∷ d.turned.consumed ∷ d.turned.sent ∷ get_or ns 0 0 ∷ get_or ns 1 0 ∷ [])
   unfolding turn_answer counted told_numbers served_numbers
   turn-served i ns row' w f p =

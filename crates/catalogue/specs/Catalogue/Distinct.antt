@@ -4,7 +4,8 @@ use Rattle.std.proofs.Common.{sym, ◌∙◌, eq-eqb, eqb-true}
 use Rattle.std.proofs.lemmas.Bool.{not-true}
 use Rattle.text.specs.Every.Laws.{pairs-both, pairs-more, pairs-nil}
 use Rattle.text.specs.Every.{every, pairs}
-use Rattle.catalogue.specs.Catalogue.{Entry, rows_in}
+use Rattle.catalogue.specs.declared.table.Entry.{Entry}
+use Rattle.catalogue.specs.Catalogue.{rows_in}
 use Rattle.catalogue.specs.Catalogue.Each.{rows_tested}
 use Rattle.catalogue.specs.Catalogue.Rules.{differ}
 use Rattle.catalogue.specs.Row.{same_indices}

@@ -3,7 +3,8 @@ use Rattle.std.specs.Prelude.{◌≡◌, refl, Bool, true, false, cond, List, []
 use Rattle.std.proofs.Common.{eqb-true}
 use Rattle.text.specs.Every.Laws.{every-both, every_more, every-nil}
 use Rattle.text.specs.Every.{every}
-use Rattle.catalogue.specs.Catalogue.{Entry, rows_in}
+use Rattle.catalogue.specs.declared.table.Entry.{Entry}
+use Rattle.catalogue.specs.Catalogue.{rows_in}
 use Rattle.catalogue.specs.declared.row.Row.{Row}
 
 -- what holds of every entry of a table holds of the rows of each type

@@ -5,7 +5,8 @@ use Rattle.std.proofs.Common.{eqb-true, ltb-true}
 use Rattle.std.specs.Int.Signed.{lt_z}
 use Rattle.text.specs.Every.Laws.{both_left, both_right, every-at, pairs-at}
 use Rattle.text.specs.Every.{every, pairs}
-use Rattle.catalogue.specs.Catalogue.{Entry, catalogue, entry_at, first_number, level, minus, no_entry, number, second_number, switch}
+use Rattle.catalogue.specs.declared.table.Entry.{Entry}
+use Rattle.catalogue.specs.Catalogue.{catalogue, entry_at, first_number, level, minus, no_entry, number, second_number, switch}
 use Rattle.catalogue.specs.Row.{same_indices}
 use Rattle.catalogue.specs.declared.row.Row.{Row}
 

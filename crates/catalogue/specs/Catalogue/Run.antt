@@ -7,7 +7,8 @@ use Rattle.std.proofs.Math.Nat.{mod-le}
 use Rattle.std.proofs.Math.ListN.{get_or, get_or-map}
 use Rattle.std.proofs.Math.Seq.{get_or-drop}
 use Rattle.std.specs.Int.{w64}
-use Rattle.catalogue.specs.Catalogue.{Entry, catalogue, entry_at, first_row, fixed, known_layout, level, minus, no_entry, no_row, number, row_of, rows_before, rows_in, rows_of, switch}
+use Rattle.catalogue.specs.declared.table.Entry.{Entry}
+use Rattle.catalogue.specs.Catalogue.{catalogue, entry_at, first_row, fixed, known_layout, level, minus, no_entry, no_row, number, row_of, rows_before, rows_in, rows_of, switch}
 use Rattle.catalogue.specs.Catalogue.Laws.{each_type, kind-flag, kind-mixer, mixer_row-of, mixer_rows_lem, over_size, under_rows}
 use Rattle.catalogue.specs.Mixer.{mixer_count, mixer_row}
 use Rattle.catalogue.specs.Mixer.Tabulated.{mixer_length_lem}

@@ -41,7 +41,7 @@ fresh-made p v z = fresh-row (record { is_open = false; port = p }) (record { sw
 
 -- ---- in a row
 
-pub no_row : (count i : ℕ) → (count ≡ 32 → ⊥) → false ≡ is_place count i
+pub no_row : (count i : ℕ) → (count ≡ 32 → ⊥) → eqb count 32 ≡ is_place count i
 unfolding is_place connection_count
 no_row count i h = rw (ne_eqb count 32 h) refl
 

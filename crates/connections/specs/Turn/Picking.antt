@@ -1,18 +1,15 @@
 -- Which connection is taken out of the row.
-use Rattle.std.specs.Prelude.{◌≡◌, Bool, true, false, cond, ◌&&◌, List, ℕ, ◌≤◌, ◌<◌, eqb, leb, length}
+use Rattle.std.specs.Prelude.{◌≡◌, Bool, cond, ◌&&◌, List, ℕ, ◌≤◌, ◌<◌, eqb, leb, length, None, Option, Some}
 use Rattle.std.proofs.Math.Path.{refl, sym, ap}
 use Rattle.std.proofs.Common.{◌∙◌}
 use Rattle.std.proofs.Math.Bool.{and-false}
-use native.Mathlib.Omega.{arith}
-use borrow.Author.Tests.{eq-eqb, ne_eqb, le-leb, lt-leb, leb-true}
+use borrow.Author.Tests.{eq-eqb, ne_eqb, le-leb, lt-leb}
 use Rattle.connections.specs.Round.{waits_by, next}
-use Rattle.connections.specs.declared.round.Served.{Served}
-use Rattle.connections.specs.declared.round.Served.TheVariants.{Nobody, One}
 
 -- the number to take out: that of the one that is next, and 0 where nobody is or a count or the last served is wrong
-unfoldable pub number_of : Served → ℕ
-number_of Nobody = 0
-number_of (One i) = i
+unfoldable pub number_of : Option ℕ → ℕ
+number_of None = 0
+number_of (Some i) = i
 
 unfoldable pub picked : (flags : List Bool) → (counts : List ℕ) → (last : ℕ) → ℕ
 picked flags counts last = cond (eqb (length counts) 32 && leb last 31) (number_of (next last (waits_by flags counts))) 0
@@ -30,11 +27,11 @@ module _ (flags : List Bool) (counts : List ℕ) (last : ℕ) where
   unfolding picked
   picked_next n l = rw (eq-eqb (length counts) 32 n, le-leb last 31 l) refl
 
-  pub pick_nobody : (t : Served) → length counts ≡ 32 → last ≤ 31 → t ≡ next last (waits_by flags counts) → t ≡ Nobody → 0 ≡ picked flags counts last
+  pub pick_nobody : (t : Option ℕ) → length counts ≡ 32 → last ≤ 31 → t ≡ next last (waits_by flags counts) → t ≡ None → 0 ≡ picked flags counts last
   unfolding number_of
   pick_nobody t n l q h = sym (picked_next n l ∙ ap number_of (sym q ∙ h))
 
-  pub pick_one : (t : Served) (i : ℕ) → length counts ≡ 32 → last ≤ 31 → t ≡ next last (waits_by flags counts) → t ≡ One i → i ≡ picked flags counts last
+  pub pick_one : (t : Option ℕ) (i : ℕ) → length counts ≡ 32 → last ≤ 31 → t ≡ next last (waits_by flags counts) → t ≡ Some i → i ≡ picked flags counts last
   unfolding number_of
   pick_one t i n l q h = sym (picked_next n l ∙ ap number_of (sym q ∙ h))
 

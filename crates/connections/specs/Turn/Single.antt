@@ -1,14 +1,12 @@
 -- A turn for the connection that was taken out of the row, by what was noted of the others.
-use Rattle.std.specs.Prelude.{◌≡◌, Bool, List, ℕ, ℤ, length, get_or, set}
+use Rattle.std.specs.Prelude.{◌≡◌, Bool, List, ℕ, ℤ, length, get_or, set, None, Some}
 use Rattle.values.specs.Room.{Room}
-use Rattle.line.specs.declared.fault.Fault.TheVariants.{Nothing}
 use Rattle.connections.specs.Connections.{closed}
 use Rattle.connections.specs.Parts.{waiting_of}
 use Rattle.connections.specs.Round.{waits_by, next}
 use Rattle.connections.specs.Serving.{Serves}
 use Rattle.connections.specs.Turn.Number.{number_by}
 use Rattle.connections.specs.declared.connection.Connection.{Connection}
-use Rattle.connections.specs.declared.round.Served.TheVariants.{Nobody, One}
 use Rattle.connections.specs.declared.serving.PortAnswer.{PortAnswer}
 use Rattle.connections.specs.declared.survey.Survey.{Survey}
 use Rattle.connections.specs.declared.turning.Turned.{Turned}
@@ -16,11 +14,11 @@ use Rattle.connections.specs.declared.turning.TurnedOne.{TurnedOne}
 
 -- nobody is served
 abbrev pub still : (number : ℕ) → Turned
-still number = record { served = Nobody; consumed = 0; sent = 0; fault = Nothing; number = number }
+still number = record { served = None; consumed = 0; sent = 0; fault = None; number = number }
 
 -- connection i is served, and its port call answered t
 abbrev pub busy_with : (i : ℕ) → PortAnswer → Turned
-busy_with i t = record { served = One i; consumed = t.consumed; sent = t.sent; fault = t.fault; number = t.number }
+busy_with i t = record { served = Some i; consumed = t.consumed; sent = t.sent; fault = t.fault; number = t.number }
 
 -- the promise of serving connection i, which is c, with its own part of the bytes
 pub data ServesNext (r : Room) (i : ℕ) (counts given : List ℕ) (vs : List ℤ) (buffer : List ℕ) (c : Connection) (d : TurnedOne) (vs' : List ℤ) (buffer' : List ℕ) : Type 0 where
@@ -29,8 +27,8 @@ pub data ServesNext (r : Room) (i : ℕ) (counts given : List ℕ) (vs : List �
 
 -- the promise of a turn for c that is not refused: with nobody waiting all stays, else c is served as the one that is next
 pub data ServesWaiting (r : Room) (flags : List Bool) (last : ℕ) (counts given : List ℕ) (vs : List ℤ) (buffer : List ℕ) (c : Connection) (d : TurnedOne) (vs' : List ℤ) (buffer' : List ℕ) : Type 0 where
-  nobody_waits : next last (waits_by flags counts) ≡ Nobody → d ≡ record { connection = c; turned = still 0 } → vs' ≡ vs → buffer' ≡ buffer → ServesWaiting r flags last counts given vs buffer c d vs' buffer'
-  one_waits : (i : ℕ) → next last (waits_by flags counts) ≡ One i → ServesNext r i counts given vs buffer c d vs' buffer' → ServesWaiting r flags last counts given vs buffer c d vs' buffer'
+  nobody_waits : next last (waits_by flags counts) ≡ None → d ≡ record { connection = c; turned = still 0 } → vs' ≡ vs → buffer' ≡ buffer → ServesWaiting r flags last counts given vs buffer c d vs' buffer'
+  one_waits : (i : ℕ) → next last (waits_by flags counts) ≡ Some i → ServesNext r i counts given vs buffer c d vs' buffer' → ServesWaiting r flags last counts given vs buffer c d vs' buffer'
 
 -- the promise of the whole turn for c: refused, all stays
 pub data TurnsOne (r : Room) (s : Survey) (last : ℕ) (counts given : List ℕ) (vs : List ℤ) (buffer : List ℕ) (c : Connection) (d : TurnedOne) (vs' : List ℤ) (buffer' : List ℕ) : Type 0 where

@@ -1,5 +1,5 @@
 -- What a line that names a cross-point does: it puts this output of the routing word, and leaves every other output and every other parameter as it was.
-use Rattle.std.specs.Prelude.{◌≡◌, true, ℕ, ◌+◌, ◌≤◌, ◌<◌, ℤ, pos, nat_abs, get_or, set}
+use Rattle.std.specs.Prelude.{◌≡◌, true, ℕ, ◌+◌, ◌≤◌, ◌<◌, ℤ, pos, nat_abs, get_or, set, Some}
 use Rattle.std.proofs.Math.Path.{sym}
 use Rattle.std.proofs.Common.{◌∙◌, ap, get_or-set_same, get_or-set_other}
 use mathlib.Core.List.{List}
@@ -18,7 +18,6 @@ use Rattle.values.specs.declared.parameter.Parameter.{Parameter}
 use Rattle.syntax.specs.Value.{read_output, read_part}
 use Rattle.syntax.specs.Value.Crosspoint.{OutputSays, puts, output_told}
 use Rattle.syntax.specs.Value.Parts.{part-output}
-use Rattle.syntax.specs.declared.value_text.ValueText.TheVariants.{Value}
 use Rattle.line.specs.Answer.{act, answer}
 use Rattle.line.specs.Answer.Laws.{answered, puts-place}
 use Rattle.line.specs.Meaning.{meaning}
@@ -60,8 +59,8 @@ module _ (r : Room) (vs : List ℤ) (line : List ℕ) (p : Parameter) (x : ℤ) 
       let label = part line (said.quote + 1) said.close in
       let indices = part line (said.close + 1) said.equal in
       let u = said.control in
-      let says : read_part p.row.kind u (get_or vs (place p) (pos 0)) text ≡ Value x = rw (row_in-kind r p) at said.valued.says in
-      let reads : read_output o (get_or vs (place p) (pos 0)) text ≡ Value x = sym (part-output p.row.kind o (get_or vs (place p) (pos 0)) text) ∙ rw k at says in
+      let says : read_part p.row.kind u (get_or vs (place p) (pos 0)) text ≡ Some x = rw (row_in-kind r p) at said.valued.says in
+      let reads : read_output o (get_or vs (place p) (pos 0)) text ≡ Some x = sym (part-output p.row.kind o (get_or vs (place p) (pos 0)) text) ∙ rw k at says in
       let one = part_in p u (names_known r.table label indices p u s said.names) (names_own r.table label indices p u s said.names) (names_has r.table label indices p u s said.names) in
       let inside = value_inside r vs (place p) p v (puts-place r vs line p x s said) in
       rw (answered r vs line (Put p x) e) (go (one.most o k) inside (output_told o (get_or vs (place p) (pos 0)) text x reads))

@@ -1,5 +1,5 @@
 -- Replies of whole answers: how long they are, and what the answer to a get line tells.
-use Rattle.std.specs.Prelude.{◌≡◌, true, List, ℕ, ◌+◌, ◌≤◌, ℤ, pos, length, get_or}
+use Rattle.std.specs.Prelude.{◌≡◌, true, List, ℕ, ◌+◌, ◌≤◌, ℤ, pos, length, get_or, Some}
 use Rattle.std.proofs.Common.{sym, ◌∙◌, ap, arith}
 use Rattle.catalogue.specs.Groups.{PartIn}
 use Rattle.catalogue.specs.declared.groups.Part.{Part}
@@ -13,7 +13,6 @@ use Rattle.values.specs.Room.{Room}
 use Rattle.values.specs.Room.Laws.{row_in-permits}
 use Rattle.values.specs.Values.{values_sound}
 use Rattle.values.specs.Values.Laws.{value_permitted}
-use Rattle.room.specs.declared.label.Bearer.TheVariants.{Only}
 use Rattle.values.specs.declared.parameter.Parameter.{Parameter}
 use Rattle.text.specs.Cut.{part}
 use Rattle.line.specs.Meaning.{meaning}
@@ -31,7 +30,7 @@ use Rattle.line.specs.Answer.{act, answer}
 use Rattle.line.specs.Answer.Laws.{Effect, malformed, refused, told, put, gets_place, answered, effect}
 use Rattle.line.specs.declared.meaning.Meaning.TheVariants.{Get}
 
-pub gets_label : (t line : List ℕ) (p : Parameter) (u : Part) → sound t ≡ true → Gets t line p u → bearer t (label t p.owner) ≡ Only p.owner
+pub gets_label : (t line : List ℕ) (p : Parameter) (u : Part) → sound t ≡ true → Gets t line p u → bearer t (label t p.owner) ≡ Some p.owner
 gets_label t line p u s h = names_label t (part line (h.quote + 1) h.close) (part line (h.close + 1) (length line)) p u s h.names
 
 pub gets_has : (t line : List ℕ) (p : Parameter) (u : Part) → sound t ≡ true → Gets t line p u → PartOf p u

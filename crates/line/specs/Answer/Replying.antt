@@ -1,5 +1,6 @@
 -- Rules for the code that answers a line, by what the line means.
-use Rattle.std.specs.Prelude.{◌≡◌, true, List, ℕ, ◌+◌, ◌<◌, ◌≤◌, ℤ, pos, length, get_or, set}
+use Rattle.std.specs.Prelude.{◌≡◌, true, List, ℕ, ◌+◌, ◌<◌, ◌≤◌, ℤ, pos, length, get_or, set, Result, Ok, Err, Option, Some, None}
+use Rattle.room.specs.declared.table.Module.{Module}
 use Rattle.std.proofs.Math.Path.{sym}
 use Rattle.std.proofs.Common.{◌∙◌, ap, subst, arith, lit<, to_z-of_z, SFits}
 use Rattle.std.specs.Int.{w64}
@@ -14,18 +15,12 @@ use Rattle.room.specs.Table.{sound}
 use Rattle.values.specs.Room.{Room, room_of}
 use Rattle.values.specs.Values.{values_sound}
 use Rattle.values.specs.Values.Laws.{value_inside}
-use Rattle.room.specs.declared.label.Bearer.{Bearer}
-use Rattle.room.specs.declared.label.Bearer.TheVariants.{Only, NotOne}
 use Rattle.values.specs.declared.parameter.Parameter.{Parameter}
-use Rattle.values.specs.declared.control.ControlFound.{ControlFound}
-use Rattle.values.specs.declared.control.ControlFound.TheVariants.{At, Nothing}
 use Rattle.syntax.specs.Shape.{shape}
 use Rattle.syntax.specs.declared.cause.Cause.{Cause}
+use Rattle.syntax.specs.declared.cause.Malformed as syntax
 use Rattle.syntax.specs.declared.shape.Shape.{Shape}
 use Rattle.syntax.specs.declared.shape.Shape.TheVariants as shape
-use Rattle.syntax.specs.declared.index_part.IndexPart.{IndexPart}
-use Rattle.syntax.specs.declared.value_text.ValueText.{ValueText}
-use Rattle.syntax.specs.declared.value_text.ValueText.TheVariants as value
 use Rattle.line.specs.Answer.{Answers, answers, act}
 use Rattle.line.specs.Answer.Laws.{answered, gets_place, puts-place}
 use Rattle.line.specs.Answer.Replies.{gets_label, gets_part}
@@ -38,7 +33,7 @@ use Rattle.spelling.specs.Reply.{get_reply}
 use Rattle.spelling.specs.Acknowledgement.{ack, nak}
 use Rattle.line.specs.declared.meaning.Meaning.{Meaning}
 use Rattle.line.specs.declared.meaning.Meaning.TheVariants.{Malformed, Code, Get, Put}
-use Rattle.line.specs.declared.fault.Fault.TheVariants as fault
+use Rattle.catalogue.specs.declared.groups.Groups.{Groups}
 
 -- ---- telling and setting one parameter
 
@@ -85,42 +80,42 @@ abbrev SmallTarget : Target → Type 0
 SmallTarget (target p u) = Unit {0}
 SmallTarget (code n) = n < 4
 
-in_module_lem : (f : ControlFound) → SmallTarget (in_module f)
+in_module_lem : (f : Option (Parameter × Part)) → SmallTarget (in_module f)
 unfolding in_module
-in_module_lem (At p u) = tt
-in_module_lem Nothing = lit< tt
+in_module_lem (Some (p, u)) = tt
+in_module_lem None = lit< tt
 
-in_room_lem : (b : Bearer) (i : IndexPart) → SmallTarget (in_room b i)
+in_room_lem : (b : Option Module) (i : Option Groups) → SmallTarget (in_room b i)
 unfolding in_room
-in_room_lem NotOne i = lit< tt
-in_room_lem (Only m) i = in_module_lem (indexed m i)
+in_room_lem None i = lit< tt
+in_room_lem (Some m) i = in_module_lem (indexed m i)
 
 small_get : (g : Target) → SmallTarget g → Small (get_of g)
 unfolding get_of
 small_get (target p u) h = tt
 small_get (code n) h = h
 
-small_put : (p : Parameter) (v : ValueText) → Small (put_of p v)
+small_put : (p : Parameter) (v : Option ℤ) → Small (put_of p v)
 unfolding put_of
-small_put p (value.Value x) = tt
-small_put p value.Wrong = lit< tt
+small_put p (Some x) = tt
+small_put p None = lit< tt
 
 small_set : (r : Room) (vs : List ℤ) (text : List ℕ) (g : Target) → SmallTarget g → Small (set_of r vs text g)
 unfolding set_of
 small_set r vs text (target p u) h = small_put p _
 small_set r vs text (code n) h = h
 
-small_shape : (r : Room) (vs : List ℤ) (line : List ℕ) (b : Bearer) (s : Shape) → Small (of_shape r vs line b s)
+small_shape : (r : Room) (vs : List ℤ) (line : List ℕ) (b : Option Module) (s : Result Shape syntax.Malformed) → Small (of_shape r vs line b s)
 unfolding of_shape
-small_shape r vs line b (shape.Malformed k n) = tt
-small_shape r vs line b (shape.Get o c) = small_get _ (in_room_lem b _)
-small_shape r vs line b (shape.Set o c e) = small_set r vs _ _ (in_room_lem b _)
+small_shape r vs line b (Err m) = tt
+small_shape r vs line b (Ok (shape.Get o c)) = small_get _ (in_room_lem b _)
+small_shape r vs line b (Ok (shape.Set o c e)) = small_set r vs _ _ (in_room_lem b _)
 
 pub code_few : (r : Room) (vs : List ℤ) (line : List ℕ) (n : ℕ) → meaning r vs line ≡ Code n → n < 4
 unfolding meaning
 code_few r vs line n e = subst Small e (small_shape r vs line (bearer_of r.table line (shape line)) (shape line))
 
-module _ (r : Room) (vs : List ℤ) (line : List ℕ) (b : Bearer) (f : Shape) (l : f ≡ shape line) (k : b ≡ bearer_of r.table line f) (m : Meaning) (d : m ≡ of_shape r vs line b f) where
+module _ (r : Room) (vs : List ℤ) (line : List ℕ) (b : Option Module) (f : Result Shape syntax.Malformed) (l : f ≡ shape line) (k : b ≡ bearer_of r.table line f) (m : Meaning) (d : m ≡ of_shape r vs line b f) where
   e : m ≡ meaning r vs line
   unfolding meaning
   e = rw (← l, ← k) d
@@ -147,33 +142,33 @@ module _ (r : Room) (vs : List ℤ) (line : List ℕ) (b : Bearer) (f : Shape) (
 
   module _ (buffer : List ℕ) (sent : ℕ) (buffer' : List ℕ) where
     pub answers_malformed : (k : Cause) (n : ℕ) → m ≡ Malformed k n → Wrote buffer 0 (nak 99) sent buffer'
-        → Answers r vs line buffer (record { sent = sent; fault = fault.At k n }) vs buffer'
+        → Answers r vs line buffer (record { sent = sent; fault = Some (record { cause = k; place = n }) }) vs buffer'
     unfolding act
     answers_malformed k n h w =
         let a = answered r vs line (Malformed k n) (sym e ∙ h) in
         answers (rw a w) (sym (ap (λ b. b.fault) a)) (sym (ap (λ b. b.values) a))
 
-    pub answers_code : (n : ℕ) → m ≡ Code n → Wrote buffer 0 (nak n) sent buffer' → Answers r vs line buffer (record { sent = sent; fault = fault.Nothing }) vs buffer'
+    pub answers_code : (n : ℕ) → m ≡ Code n → Wrote buffer 0 (nak n) sent buffer' → Answers r vs line buffer (record { sent = sent; fault = None }) vs buffer'
     unfolding act
     answers_code n h w =
         let a = answered r vs line (Code n) (sym e ∙ h) in
         answers (rw a w) (sym (ap (λ b. b.fault) a)) (sym (ap (λ b. b.values) a))
 
     pub answers_get : (p : Parameter) (u : Part) → m ≡ Get p u → Wrote buffer 0 (get_reply r.table p u (get_or vs (place p) (pos 0))) sent buffer'
-        → Answers r vs line buffer (record { sent = sent; fault = fault.Nothing }) vs buffer'
+        → Answers r vs line buffer (record { sent = sent; fault = None }) vs buffer'
     unfolding act
     answers_get p u h w =
         let a = answered r vs line (Get p u) (sym e ∙ h) in
         answers (rw a w) (sym (ap (λ b. b.fault) a)) (sym (ap (λ b. b.values) a))
 
     pub answers_put : (p : Parameter) (x : ℤ) (vs' : List ℤ) → m ≡ Put p x → Wrote buffer 0 ack sent buffer' → vs' ≡ set vs (place p) x
-        → Answers r vs line buffer (record { sent = sent; fault = fault.Nothing }) vs' buffer'
+        → Answers r vs line buffer (record { sent = sent; fault = None }) vs' buffer'
     unfolding act
     answers_put p x vs' h w k =
         let a = answered r vs line (Put p x) (sym e ∙ h) in
         answers (rw a w) (sym (ap (λ b. b.fault) a)) (k ∙ sym (ap (λ b. b.values) a))
 
-pub get_tellable : (t : List ℕ) (vs : List ℤ) (line : List ℕ) (b : Bearer) (f : Shape) (m : Meaning) (p : Parameter) (u : Part) → f ≡ shape line → b ≡ bearer_of t line f
+pub get_tellable : (t : List ℕ) (vs : List ℤ) (line : List ℕ) (b : Option Module) (f : Result Shape syntax.Malformed) (m : Meaning) (p : Parameter) (u : Part) → f ≡ shape line → b ≡ bearer_of t line f
     → m ≡ of_shape (room_of t) vs line b f → m ≡ Get p u → sound t ≡ true → values_sound (room_of t) vs ≡ true → Tellable t vs p u
 get_tellable t vs line b f m p u l k d h s v = gets_tellable (room_of t) vs line b f l k m d p u h s v
 

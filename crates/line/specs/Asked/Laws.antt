@@ -1,5 +1,5 @@
 -- That the get line of a parameter asks for it, and is answered with its value.
-use Rattle.std.specs.Prelude.{◌≡◌, refl, List, ◌∷◌, ◌++◌, ℕ, ◌+◌, ◌≤◌, ℤ, pos, length, get_or}
+use Rattle.std.specs.Prelude.{◌≡◌, refl, List, ◌∷◌, ◌++◌, ℕ, ◌+◌, ◌≤◌, ℤ, pos, length, get_or, None}
 use Rattle.std.proofs.Common.{◌∙◌, ap, arith, SFits}
 use Rattle.std.specs.Int.{w64}
 use Rattle.text.specs.Cut.{index_of, part}
@@ -22,7 +22,6 @@ use Rattle.line.specs.Answer.Laws.{answered}
 use Rattle.line.specs.Asked.{get_line}
 use Rattle.line.specs.Meaning.Laws.{Gets, gets_back}
 use Rattle.line.specs.Said.Naming.{Reached, held-short, no_return, reached_indices, reached_part}
-use Rattle.line.specs.declared.fault.Fault.TheVariants.{Nothing}
 use Rattle.line.specs.declared.meaning.Meaning.TheVariants.{Get}
 
 zero_fits : SFits w64 (pos 0)
@@ -76,7 +75,7 @@ module _ (t : List ℕ) (p : Parameter) (r : Reached t p) (u : Part) (has : Part
 
 -- it is answered with the present value of the part that it names, and no value changes
 pub asked-answer : (r : Room) (vs : List ℤ) (p : Parameter) (u : Part) → Reached r.table p → PartOf p u
-    → answer r vs (get_line r.table p u) ≡ record { reply = get_reply r.table p u (get_or vs (place p) (pos 0)); values = vs; fault = Nothing }
+    → answer r vs (get_line r.table p u) ≡ record { reply = get_reply r.table p u (get_or vs (place p) (pos 0)); values = vs; fault = None }
 unfolding act
 asked-answer r vs p u n has =
     answered r vs (get_line r.table p u) (Get p u) (gets_back r vs (get_line r.table p u) p u (asks r.table p n u has))

@@ -1,5 +1,5 @@
 -- The two kinds of line that set a routing word: how long each is, that a line for one output is shorter than one for the word, and two of them longer.
-use Rattle.std.specs.Prelude.{◌≡◌, true, List, [], ◌∷◌, ◌++◌, ℕ, ◌+◌, ◌≤◌, ◌<◌, ℤ, nat_abs}
+use Rattle.std.specs.Prelude.{◌≡◌, true, List, [], ◌∷◌, ◌++◌, ℕ, ◌+◌, ◌≤◌, ◌<◌, ℤ, nat_abs, Some}
 use Rattle.std.proofs.Math.Path.{ap}
 use Rattle.std.proofs.Common.{arith, length-append}
 use Rattle.std.proofs.Math.ListN.{length}
@@ -23,7 +23,6 @@ use Rattle.room.specs.Label.{label}
 use Rattle.values.specs.Parameters.{parameters_of, parameter_at}
 use Rattle.values.specs.Parameters.Named.{word-routed}
 use Rattle.values.specs.declared.parameter.Parameter.{Parameter}
-use Rattle.values.specs.declared.parameter.ParameterFound.TheVariants.{At}
 use Rattle.spelling.specs.IndexText.{index_text}
 use Rattle.spelling.specs.IndexText.Laws.{number-group, pair_group, two_groups_lem}
 use Rattle.spelling.specs.Line.{line_for}
@@ -58,7 +57,7 @@ whole_word k x e = rw (e, whole_text_lem Word x, word-text x) (word-length (nat_
 one_letter : (k : Kind) (o : ℕ) (x : ℤ) → length (part_text k (Output o) x) ≡ 1
 one_letter k o x = rw (output_text k o x) (switch-length (bit o (nat_abs x)))
 
-module _ (t : List ℕ) (p : Parameter) (known : known_layout p.owner.layout ≡ true) (own : parameter_at (parameters_of p.owner) p.number ≡ At p)
+module _ (t : List ℕ) (p : Parameter) (known : known_layout p.owner.layout ≡ true) (own : parameter_at (parameters_of p.owner) p.number ≡ Some p)
     (word : p.row.kind ≡ Word) where
   -- the word's input
   unfoldable pub input : ℕ

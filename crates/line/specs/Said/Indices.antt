@@ -1,5 +1,5 @@
 -- Index groups as they are written read back, and no text that says them is shorter.
-use Rattle.std.specs.Prelude.{◌≡◌, refl, true, List, ℕ, ◌≤◌, ◌<◌, length}
+use Rattle.std.specs.Prelude.{◌≡◌, refl, true, List, ℕ, ◌≤◌, ◌<◌, length, Some}
 use Rattle.std.proofs.Common.{arith, length-append}
 use Rattle.text.specs.Digits.{digits}
 use Rattle.text.specs.Number.Laws.{number-back, number-shortest}
@@ -20,7 +20,6 @@ use Rattle.syntax.specs.IndexPart.{read_indices}
 use Rattle.syntax.specs.IndexPart.Laws.{Says, one, two, indices-said, indices-told}
 use Rattle.spelling.specs.IndexText.{group_text, index_text}
 use Rattle.spelling.specs.IndexText.Laws.{number-group, pair_group, one_group_lem, two_groups_lem}
-use Rattle.syntax.specs.declared.index_part.IndexPart.TheVariants.{Right}
 
 -- ---- numbers of at most three digits
 
@@ -51,7 +50,7 @@ group_back : {g : Group} → Few g → GroupSays (group_text g) g
 group_back (number a l) = rw (number-group a) (single a (number-back 3 a (omega arith) l))
 group_back (numbers a b l m) = pair (digits a) (digits b) a b (pair_group a b) (number-back 3 a (omega arith) l) (number-back 3 b (omega arith) m)
 
-pub indices-back : (i : Groups) → Small i → read_indices (index_text i) ≡ Right i
+pub indices-back : (i : Groups) → Small i → read_indices (index_text i) ≡ Some i
 indices-back i h = indices-said (index_text i) i (go h)
   where
     go : {i : Groups} → Small i → Says (index_text i) i
@@ -65,7 +64,7 @@ group_shortest s (single a e) = rw (number-group a) (number-shortest 3 s a e)
 group_shortest s (pair u w a b p e f) =
     rw (pair_group a b, p) (simp length-append (omega (arith, number-shortest 3 u a e, number-shortest 3 w b f)))
 
-pub indices-shortest : (s : List ℕ) (i : Groups) → read_indices s ≡ Right i → length (index_text i) ≤ length s
+pub indices-shortest : (s : List ℕ) (i : Groups) → read_indices s ≡ Some i → length (index_text i) ≤ length s
 indices-shortest s i h = go (indices-told s i h)
   where
     go : {i : Groups} → Says s i → length (index_text i) ≤ length s

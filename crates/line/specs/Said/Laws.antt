@@ -1,5 +1,5 @@
 -- The set line that is written is made of bytes, has no 0D, and reads back as a put of its value.
-use Rattle.std.specs.Prelude.{◌≡◌, Bool, true, false, List, [], ◌∷◌, ℕ, ◌≤◌, ◌<◌, ◌^◌, leb, ℤ, nat_abs, length, get_or, set}
+use Rattle.std.specs.Prelude.{◌≡◌, Bool, true, false, List, [], ◌∷◌, ℕ, ◌≤◌, ◌<◌, ◌^◌, leb, ℤ, nat_abs, length, get_or, set, None, Some}
 use Rattle.std.proofs.Math.Path.{refl, ap}
 use Rattle.std.proofs.Common.{sym, ◌∙◌, arith, leb-true, leb-false}
 use Rattle.std.proofs.Math.IntN.{pos}
@@ -18,15 +18,12 @@ use Rattle.room.specs.Table.{sound}
 use Rattle.catalogue.specs.declared.groups.Part.{Part}
 use Rattle.catalogue.specs.declared.row.Kind.{Kind}
 use Rattle.catalogue.specs.declared.row.Kind.TheVariants.{Word}
-use Rattle.room.specs.declared.label.Bearer.TheVariants.{Only}
 use Rattle.values.specs.declared.parameter.Parameter.{Parameter}
-use Rattle.values.specs.declared.parameter.ParameterFound.TheVariants.{At}
 use Rattle.line.specs.Meaning.Outputs.{word-bits, word-natural, word_of}
 use Rattle.line.specs.Said.Texts.{part_put, part-back}
 use Rattle.line.specs.Meaning.{meaning}
 use Rattle.line.specs.Meaning.Laws.{puts_back}
 use Rattle.spelling.specs.Acknowledgement.{ack}
-use Rattle.line.specs.declared.fault.Fault.TheVariants.{Nothing}
 use Rattle.line.specs.Answer.{act, answer}
 use Rattle.values.specs.Room.{Room, row_in}
 use Rattle.values.specs.Room.Laws.{row_in-kind, row_in-permits, row_in-settable}
@@ -41,7 +38,6 @@ use Rattle.spelling.specs.Text.{part_text}
 use Rattle.spelling.specs.Text.Parts.{part-lacks}
 use Rattle.line.specs.Said.Naming.{Reached, reached, reached_part, naming, parts_put, reached_sized, said-short, naming-short, naming-parts, rest, naming-rest, rest-no_return, verb_no_return}
 use Rattle.line.specs.declared.meaning.Meaning.TheVariants.{Put}
-use Rattle.syntax.specs.declared.value_text.ValueText.TheVariants as value
 
 -- the set line of a part, with the value's text in it
 pub set_naming : (t : List ℕ) (p : Parameter) (u : Part) (x : ℤ) → line_for 0x53 t p u x ≡ naming t p u (part_text p.row.kind u x)
@@ -79,7 +75,7 @@ module _ (r : Room) (p : Parameter) (u : Part) (v x : ℤ) (n : Reached r.table 
             (parts_put r vs p u w (naming t p u w) x (naming-parts t p n u has w short)
             (record {
               settable = row_in-settable r p ∙ s;
-              says = rw (row_in-kind r p, e) (part-back p.row.kind u v x z ∙ ap value.Value put);
+              says = rw (row_in-kind r p, e) (part-back p.row.kind u v x z ∙ ap Some put);
               permits = h;
             })));
       }
@@ -121,8 +117,8 @@ module _ (r : Room) (p : Parameter) (v x : ℤ) (n : Reached r.table p) (g : per
   said-puts (said.more o q os k e) = refl
 
 -- the set line between two values that are permitted in the room
-pub say-said : (r : Room) (k : ℕ) (p : Parameter) (v x : ℤ) → sound r.table ≡ true → parameter_at (parameters r.table) k ≡ At p
-    → bearer r.table (label r.table p.owner) ≡ Only p.owner → p.row.settable ≡ true → permitted (row_in r p) v ≡ true → permitted (row_in r p) x ≡ true
+pub say-said : (r : Room) (k : ℕ) (p : Parameter) (v x : ℤ) → sound r.table ≡ true → parameter_at (parameters r.table) k ≡ Some p
+    → bearer r.table (label r.table p.owner) ≡ Some p.owner → p.row.settable ≡ true → permitted (row_in r p) v ≡ true → permitted (row_in r p) x ≡ true
     → Said r p v x (say r.table p v x)
 say-said r k p v x s e o w g h =
     let n = reached r.table k p s e o in
@@ -135,6 +131,6 @@ say-puttable r p v x s g h = let n = h.reached in say-said r (place p) p v x s n
 
 -- it is acknowledged, and sets the value at p's place
 pub said-answer : (r : Room) (vs : List ℤ) (p : Parameter) (v x : ℤ) (line : List ℕ) → Said r p v x line → get_or vs (place p) (pos 0) ≡ v
-    → answer r vs line ≡ record { reply = ack; values = set vs (place p) x; fault = Nothing }
+    → answer r vs line ≡ record { reply = ack; values = set vs (place p) x; fault = None }
 unfolding act
 said-answer r vs p v x line h e = answered r vs line (Put p x) (h.means vs e)

@@ -1,5 +1,5 @@
 -- A set line that names a parameter as a line and a reply do: how long it is, and how its parts are read.
-use Rattle.std.specs.Prelude.{◌≡◌, refl, true, List, ◌∷◌, ◌++◌, ℕ, ◌+◌, ◌≤◌, ℤ, pos, nat_abs, length, get_or}
+use Rattle.std.specs.Prelude.{◌≡◌, refl, true, List, ◌∷◌, ◌++◌, ℕ, ◌+◌, ◌≤◌, ℤ, pos, nat_abs, length, get_or, Ok, Some}
 use Rattle.std.proofs.Common.{◌∙◌, ap, arith, SFits}
 use Rattle.std.specs.Int.{w64}
 use Rattle.text.specs.Cut.{index_of, part}
@@ -22,9 +22,7 @@ use Rattle.catalogue.specs.declared.groups.Part.TheVariants.{Whole, Output}
 use Rattle.catalogue.specs.Row.{permitted}
 use Rattle.room.specs.Table.{sound}
 use Rattle.record.specs.Field.{label_right}
-use Rattle.room.specs.declared.label.Bearer.TheVariants.{Only}
 use Rattle.values.specs.declared.parameter.Parameter.{Parameter}
-use Rattle.values.specs.declared.parameter.ParameterFound.TheVariants.{At}
 use Rattle.syntax.specs.Shape.{shape}
 use Rattle.syntax.specs.Shape.Laws.{SetLine, set_line_length, set_line_shape, set_line_label, set_line_indices, set_line_text}
 use Rattle.syntax.specs.IndexPart.{read_indices}
@@ -34,7 +32,6 @@ use Rattle.syntax.specs.Value.Laws.{Valued}
 use Rattle.values.specs.Room.{Room, row_in}
 use Rattle.line.specs.Meaning.Laws.{Names, Puts}
 use Rattle.spelling.specs.IndexText.{index_text}
-use Rattle.syntax.specs.declared.index_part.IndexPart.TheVariants as index
 use Rattle.syntax.specs.declared.shape.Shape.TheVariants as shape
 use Rattle.spelling.specs.IndexText.Laws.{Foreign, indices-lack}
 use Rattle.spelling.specs.IndexText.Short.{whole-short, output_short}
@@ -48,12 +45,12 @@ use Rattle.text.specs.Word.{bit}
 -- p is a parameter of the sound table t, and its module alone bears its label
 pub record Reached (t : List ℕ) (p : Parameter) : Type 0 where
   pub right : label_right (label t p.owner) ≡ true
-  pub one : bearer t (label t p.owner) ≡ Only p.owner
+  pub one : bearer t (label t p.owner) ≡ Some p.owner
   pub known : known_layout p.owner.layout ≡ true
-  pub own : parameter_at (parameters_of p.owner) p.number ≡ At p
+  pub own : parameter_at (parameters_of p.owner) p.number ≡ Some p
 
-pub reached : (t : List ℕ) (k : ℕ) (p : Parameter) → sound t ≡ true → parameter_at (parameters t) k ≡ At p
-    → bearer t (label t p.owner) ≡ Only p.owner → Reached t p
+pub reached : (t : List ℕ) (k : ℕ) (p : Parameter) → sound t ≡ true → parameter_at (parameters t) k ≡ Some p
+    → bearer t (label t p.owner) ≡ Some p.owner → Reached t p
 reached t k p s e o =
     let f = bearer-found t (label t p.owner) p.owner s o in
     record { right = f.right; one = o; known = f.known; own = (at_place t k p e).own }
@@ -75,7 +72,7 @@ pub record Parts (t : List ℕ) (p : Parameter) (u : Part) (w line : List ℕ) :
   pub quote : ℕ
   pub close : ℕ
   pub equal : ℕ
-  pub shaped : shape line ≡ shape.Set quote close equal
+  pub shaped : shape line ≡ Ok (shape.Set quote close equal)
   pub labelled : part line (quote + 1) close ≡ label t p.owner
   pub names : Names t (part line (quote + 1) close) (part line (close + 1) equal) p u
   pub text : part line (equal + 1) (length line) ≡ w
@@ -95,7 +92,7 @@ no_return =
     record { other = return_other; no_arrow = λ e. omega arith; no_opening = λ e. omega arith; no_comma = λ e. omega arith; no_closing = λ e. omega arith }
 
 -- a parameter of a module, whether or not another bears its label
-module _ (p : Parameter) (known : known_layout p.owner.layout ≡ true) (own : parameter_at (parameters_of p.owner) p.number ≡ At p) where
+module _ (p : Parameter) (known : known_layout p.owner.layout ≡ true) (own : parameter_at (parameters_of p.owner) p.number ≡ Some p) where
   own-sized : sized_row p.row ≡ true
   own-sized = row_sized p.owner p.number p known own
 
@@ -122,7 +119,7 @@ module _ (t : List ℕ) (p : Parameter) (r : Reached t p) where
   reached_part u h = part_in p u r.known r.own h
 
   -- the index groups of a part read back
-  pub reached_indices : (u : Part) → PartOf p u → read_indices (index_text (groups_of p.row.indices u)) ≡ index.Right (groups_of p.row.indices u)
+  pub reached_indices : (u : Part) → PartOf p u → read_indices (index_text (groups_of p.row.indices u)) ≡ Some (groups_of p.row.indices u)
   reached_indices u h = indices-back (groups_of p.row.indices u) (row_small p.row.indices u indices-fit (reached_part u h))
 
   -- the index groups and the text of a part are short

@@ -1,5 +1,5 @@
 -- What a line that puts a value costs at least: it names a part of the parameter, and is no shorter than the set line of that part.
-use Rattle.std.specs.Prelude.{◌≡◌, refl, true, List, ℕ, ◌+◌, ◌≤◌, ◌<◌, ℤ, pos, nat_abs, length, get_or}
+use Rattle.std.specs.Prelude.{◌≡◌, refl, true, List, ℕ, ◌+◌, ◌≤◌, ◌<◌, ℤ, pos, nat_abs, length, get_or, Some}
 use Rattle.std.proofs.Common.{sym, ◌∙◌, ap, arith}
 use Rattle.text.specs.Cut.{part}
 use Rattle.text.specs.Cut.Part.{part_length}
@@ -25,12 +25,10 @@ use Rattle.line.specs.Meaning.Laws.{Names, names_has, names_known, names_own, pu
 use Rattle.spelling.specs.IndexText.{index_text}
 use Rattle.spelling.specs.Line.{line_for}
 use Rattle.spelling.specs.Line.Laws.{line_length}
-use Rattle.syntax.specs.declared.index_part.IndexPart.TheVariants.{Right}
 use Rattle.line.specs.declared.meaning.Meaning.TheVariants.{Put}
 use Rattle.syntax.specs.Value.{read_part}
 use Rattle.syntax.specs.Value.Crosspoint.{OutputSays, puts, output_told}
 use Rattle.syntax.specs.Value.Parts.{part-output}
-use Rattle.syntax.specs.declared.value_text.ValueText.TheVariants.{Value}
 
 -- the label stands in the line as in the table, and the index groups take no less than their digits
 names_length : (t text indices : List ℕ) (p : Parameter) (u : Part) → sound t ≡ true → Names t text indices p u
@@ -38,7 +36,7 @@ names_length : (t text indices : List ℕ) (p : Parameter) (u : Part) → sound 
 names_length t text indices p u s h =
     let l : length (label t p.owner) ≡ length text = ap length (bearer-found t text p.owner s h.one).labelled in
     let i = (named-told p.owner h.groups p u h.names).groups in
-    omega (arith, indices-shortest indices (groups_of p.row.indices u) (h.right ∙ ap Right (sym i)))
+    omega (arith, indices-shortest indices (groups_of p.row.indices u) (h.right ∙ ap Some (sym i)))
 
 -- a line that takes p from v to x: it says x whole, or puts one output of a routing word
 pub data Costs (t : List ℕ) (p : Parameter) (v x : ℤ) (line : List ℕ) : Type 0 where
@@ -46,7 +44,7 @@ pub data Costs (t : List ℕ) (p : Parameter) (v x : ℤ) (line : List ℕ) : Ty
   by_output : (o b : ℕ) → p.row.kind ≡ Word → 1 ≤ o → o ≤ 32 → b < 2 → x ≡ pos (with_bit o b (nat_abs v)) → length (line_for 0x53 t p (Output o) x) ≤ length line
       → Costs t p v x line
 
-costs : (t : List ℕ) (p : Parameter) (v x : ℤ) (line s : List ℕ) (u : Part) → PartOf p u → PartIn u → read_part p.row.kind u v s ≡ Value x
+costs : (t : List ℕ) (p : Parameter) (v x : ℤ) (line s : List ℕ) (u : Part) → PartOf p u → PartIn u → read_part p.row.kind u v s ≡ Some x
     → length (line_for 0x53 t p u x) ≤ length line → Costs t p v x line
 costs t p v x line s u all k e h = by_whole h
 costs t p v x line s u (output o w some most) k e h = go (output_told o v s x (sym (part-output p.row.kind o v s) ∙ e)) h

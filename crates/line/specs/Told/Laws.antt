@@ -1,5 +1,5 @@
 -- That the answer to a get line tells its parameter and its value, and reads back.
-use Rattle.std.specs.Prelude.{◌≡◌, true, ℕ, ◌+◌, ◌≤◌, ℤ, pos, length, get_or, take}
+use Rattle.std.specs.Prelude.{◌≡◌, true, ℕ, ◌+◌, ◌≤◌, ℤ, pos, length, get_or, take, Some}
 use Rattle.std.proofs.Common.{◌∙◌, arith, length-append, SFits}
 use mathlib.Core.List.{List, [], ◌∷◌, ◌++◌, append_assoc}
 use Rattle.std.specs.Int.{w64}
@@ -16,9 +16,7 @@ use Rattle.room.specs.Label.{label, bearer}
 use Rattle.values.specs.Parameters.{parameters, parameters_of, parameter_at, place}
 use Rattle.catalogue.specs.Row.{permitted}
 use Rattle.room.specs.Table.{sound}
-use Rattle.room.specs.declared.label.Bearer.TheVariants.{Only}
 use Rattle.values.specs.declared.parameter.Parameter.{Parameter}
-use Rattle.values.specs.declared.parameter.ParameterFound.TheVariants.{At}
 use Rattle.values.specs.Room.{Room, row_in}
 use Rattle.values.specs.Room.Laws.{row_in-kind, row_in-settable}
 use Rattle.line.specs.Said.Laws.{set_naming}
@@ -48,7 +46,7 @@ module _ (t : List ℕ) (p : Parameter) (u : Part) (v : ℤ) where
   reply_length = rw (reply_rest, naming-rest t p u text) (simp length-append (omega arith))
 
   -- whatever value of 64 bits is told, the reply is short, also where another module bears the label
-  pub reply_within : label_right (label t p.owner) ≡ true → known_layout p.owner.layout ≡ true → parameter_at (parameters_of p.owner) p.number ≡ At p
+  pub reply_within : label_right (label t p.owner) ≡ true → known_layout p.owner.layout ≡ true → parameter_at (parameters_of p.owner) p.number ≡ Some p
       → PartIn u → SFits w64 v → length (get_reply t p u v) ≤ 64
   reply_within right known own k f =
       let l = (label_right_lem (label t p.owner) right).most in
@@ -82,8 +80,8 @@ module _ (t : List ℕ) (p : Parameter) (u : Part) (v : ℤ) where
       }
 
 -- the reply that tells a part of a value of p that its own row permits
-pub reply_told : (t : List ℕ) (k : ℕ) (p : Parameter) (u : Part) (v : ℤ) → sound t ≡ true → parameter_at (parameters t) k ≡ At p
-    → bearer t (label t p.owner) ≡ Only p.owner → PartOf p u → permitted p.row v ≡ true → Told t p u v (get_reply t p u v)
+pub reply_told : (t : List ℕ) (k : ℕ) (p : Parameter) (u : Part) (v : ℤ) → sound t ≡ true → parameter_at (parameters t) k ≡ Some p
+    → bearer t (label t p.owner) ≡ Some p.owner → PartOf p u → permitted p.row v ≡ true → Told t p u v (get_reply t p u v)
 reply_told t k p u v s e o has h = reached_told t p u v (reached t k p s e o) has h
 
 -- where the row may be set and the room permits it, the reply read as a set line puts the part that it tells: of a value told whole, this value

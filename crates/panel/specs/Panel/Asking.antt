@@ -1,10 +1,9 @@
 -- A change that is told, and the port asked afterwards: the notice is exactly what the port replies to the get line of the parameter.
-use Rattle.std.specs.Prelude.{◌≡◌, refl, true, List, [], ◌∷◌, ◌++◌, ℕ, suc, ◌≤◌, ℤ, pos, length, get_or, set, take}
+use Rattle.std.specs.Prelude.{◌≡◌, refl, true, List, [], ◌∷◌, ◌++◌, ℕ, suc, ◌≤◌, ℤ, pos, length, get_or, set, take, None, Some}
 use Rattle.std.proofs.Common.{◌∙◌, arith, get_or-set_same}
 use Rattle.std.proofs.lemmas.List.Edits.{sets}
 use Rattle.catalogue.specs.declared.groups.Part.TheVariants.{Whole}
 use Rattle.room.specs.Label.{bearer, label}
-use Rattle.room.specs.declared.label.Bearer.TheVariants.{Only}
 use Rattle.values.specs.Control.Laws.{all}
 use Rattle.values.specs.Parameters.{place}
 use Rattle.values.specs.Parameters.ByRow.{by_row-told}
@@ -19,7 +18,6 @@ use Rattle.line.specs.Asked.{get_line}
 use Rattle.line.specs.Asked.Laws.{asked-answer, asked-short, asked-whole}
 use Rattle.line.specs.Said.Naming.{Reached, reached}
 use Rattle.line.specs.Told.Laws.{reply_told}
-use Rattle.line.specs.declared.fault.Fault.TheVariants.{Nothing}
 use Rattle.serial_port.specs.Call.{call}
 use Rattle.serial_port.specs.Call.Laws.{written_first}
 use Rattle.serial_port.specs.Call.OneLine.{line_told}
@@ -31,7 +29,7 @@ use Rattle.panel.specs.Panel.Laws.{Accepted, change_told}
 
 module _ (r : Room) (vs : List ℤ) (buffer : List ℕ) (owner row : ℕ) (x : ℤ) (a : Accepted r vs (length buffer) owner row x)
     (marked : notified r.table a.parameter.owner ≡ true) (moved : get_or vs (place a.parameter) (pos 0) ≡ x → ⊥)
-    (once : bearer r.table (label r.table a.parameter.owner) ≡ Only a.parameter.owner) where
+    (once : bearer r.table (label r.table a.parameter.owner) ≡ Some a.parameter.owner) where
   abbrev t : List ℕ
   t = r.table
 
@@ -46,7 +44,7 @@ module _ (r : Room) (vs : List ℤ) (buffer : List ℕ) (owner row : ℕ) (x : �
 
   -- what the get line is answered then
   asked : answer r (set vs (place a.parameter) x) (get_line r.table a.parameter Whole)
-      ≡ record { reply = get_reply r.table a.parameter Whole x; values = set vs (place a.parameter) x; fault = Nothing }
+      ≡ record { reply = get_reply r.table a.parameter Whole x; values = set vs (place a.parameter) x; fault = None }
   asked =
       let l = value_inside r vs (place p) p a.right (by_row-told t owner row p a.found).listed in
       asked-answer r after p Whole reaches all ∙ rw (get_or-set_same vs (place p) x (pos 0) l) refl
@@ -68,7 +66,7 @@ module _ (r : Room) (vs : List ℤ) (buffer : List ℕ) (owner row : ℕ) (x : �
         number = 0;
         consumed = suc (length (get_line r.table a.parameter Whole));
         sent = (panel r vs buffer owner row x).sent;
-        fault = Nothing;
+        fault = None;
         state = (panel r vs buffer owner row x).values;
         buffer = sets reply 0 (take (panel r vs buffer owner row x).sent (panel r vs buffer owner row x).buffer);
       }
@@ -76,5 +74,5 @@ module _ (r : Room) (vs : List ℤ) (buffer : List ℕ) (owner row : ℕ) (x : �
   panel-as_get q reply v few room =
       let sound-after = set_sound r vs (place p) p x (by_row-told t owner row p a.found).listed a.permits a.right in
       rw (bytes-told, change_told r vs buffer owner row x a marked moved)
-      (line_told r after (get_line t p Whole) (get_reply t p Whole x) Nothing after asked (asked-short t p reaches Whole all) (asked-whole t p reaches Whole all)
+      (line_told r after (get_line t p Whole) (get_reply t p Whole x) None after asked (asked-short t p reaches Whole all) (asked-whole t p reaches Whole all)
       q reply a.table sound-after room few v)

@@ -1,5 +1,5 @@
 -- Rules for the code of a change: one for each way to return.
-use Rattle.std.specs.Prelude.{◌≡◌, Bool, true, false, cond, not, ◌&&◌, List, ℕ, ◌+◌, ◌<◌, ◌≤◌, ℤ, pos, length, get_or, set}
+use Rattle.std.specs.Prelude.{◌≡◌, Bool, true, false, cond, not, ◌&&◌, List, ℕ, ◌+◌, ◌<◌, ◌≤◌, ℤ, pos, length, get_or, set, Option, Some, None}
 use Rattle.std.proofs.Math.Path.{refl}
 use Rattle.std.proofs.Common.{sym, ◌∙◌, ap, add-zero, arith, eq-eqb, ne_eqb, to_z-of_z, SFits, of_z}
 use Rattle.std.proofs.Math.Bool.{and-false}
@@ -20,28 +20,26 @@ use Rattle.values.specs.Room.{Room}
 use Rattle.values.specs.Room.Laws.{row_in-own}
 use Rattle.values.specs.Values.Compared.{bits-differ, bits-equal}
 use Rattle.values.specs.declared.parameter.Parameter.{Parameter}
-use Rattle.values.specs.declared.parameter.ParameterFound.{ParameterFound}
-use Rattle.values.specs.declared.parameter.ParameterFound.TheVariants.{At, Nothing}
 use Rattle.spelling.specs.Reply.{get_reply}
 use Rattle.spelling.specs.Say.Laws.{output_in, whole_in}
 use Rattle.panel.specs.Panel.{change_number, notice, notified, row_number}
 
 -- ---- the number of a change: the code judges by the own row of the parameter
 
-unfoldable pub own_number : ParameterFound → ℤ → ℕ
-own_number (At p) x = row_number p.row x
-own_number Nothing x = 9
+unfoldable pub own_number : Option Parameter → ℤ → ℕ
+own_number (Some p) x = row_number p.row x
+own_number None x = 9
 
-pub own_number_lem : (r : Room) (f : ParameterFound) (x : ℤ) → own_number f x ≡ change_number r f x
+pub own_number_lem : (r : Room) (f : Option Parameter) (x : ℤ) → own_number f x ≡ change_number r f x
 unfolding own_number change_number
-own_number_lem r (At p) x = rw (row_in-own r p) refl
-own_number_lem r Nothing x = refl
+own_number_lem r (Some p) x = rw (row_in-own r p) refl
+own_number_lem r None x = refl
 
 -- the arithmetic of the row that was found stays within 64 bits
-pub record FoundFits (f : ParameterFound) : Type 0 where
-  pub fits : (p : Parameter) → f ≡ At p → RowFits p.row
+pub record FoundFits (f : Option Parameter) : Type 0 where
+  pub fits : (p : Parameter) → f ≡ Some p → RowFits p.row
 
-pub found-row_fits : (f : ParameterFound) (p : Parameter) → FoundFits f → f ≡ At p → RowFits p.row
+pub found-row_fits : (f : Option Parameter) (p : Parameter) → FoundFits f → f ≡ Some p → RowFits p.row
 found-row_fits f p h e = h.fits p e
 
 nine_first : (a b : Bool) → not a ≡ true → ◌≡◌ {A = ℕ} 9 (cond (a && b) 0 9)
@@ -50,12 +48,12 @@ nine_first a b e = rw (not-true a e) refl
 none_or_nine : (a b c : Bool) → not a ≡ false → b ≡ c → ◌≡◌ {A = ℕ} (cond c 0 9) (cond (a && b) 0 9)
 none_or_nine a b c e h = rw (not-false a e, h) refl
 
-module _ (f : ParameterFound) (x : ℤ) where
-  pub number-nothing : f ≡ Nothing → 9 ≡ own_number f x
+module _ (f : Option Parameter) (x : ℤ) where
+  pub number-nothing : f ≡ None → 9 ≡ own_number f x
   unfolding own_number
   number-nothing e = rw e refl
 
-  module _ (p : Parameter) (e : f ≡ At p) where
+  module _ (p : Parameter) (e : f ≡ Some p) where
     by_row_lem : cond (p.row.settable && permitted p.row x) 0 9 ≡ own_number f x
     unfolding own_number row_number
     by_row_lem = rw e refl

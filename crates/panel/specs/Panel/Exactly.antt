@@ -1,5 +1,5 @@
 -- When exactly a change is refused, and with which number.
-use Rattle.std.specs.Prelude.{◌≡◌, Bool, true, ◌&&◌, ◌↔◌, List, ℕ, ◌<◌, ◌≤◌, leb, ℤ}
+use Rattle.std.specs.Prelude.{◌≡◌, Bool, true, ◌&&◌, ◌↔◌, List, ℕ, ◌<◌, ◌≤◌, leb, ℤ, Option, Some, None}
 use Rattle.std.proofs.Math.Path.{refl}
 use Rattle.std.proofs.Common.{◌∙◌, ap, arith, leb-false, leb-true}
 use Rattle.std.proofs.Math.Bool.{false, and-false}
@@ -14,8 +14,6 @@ use Rattle.values.specs.Room.Laws.{row_in-settable}
 use Rattle.values.specs.Values.{values_sound}
 use Rattle.values.specs.Values.Number.{values_passed, values_refused}
 use Rattle.values.specs.declared.parameter.Parameter.{Parameter}
-use Rattle.values.specs.declared.parameter.ParameterFound.{ParameterFound}
-use Rattle.values.specs.declared.parameter.ParameterFound.TheVariants.{At, Nothing}
 use Rattle.serial_port.specs.Refusal.{reply_limit}
 use Rattle.serial_port.specs.Refusal.Number.{reply_passed, reply_refused}
 use Rattle.panel.specs.Panel.{change_number, panel_number, row_number}
@@ -24,23 +22,23 @@ use Rattle.panel.specs.Panel.Laws.{Accepted, accepted}
 -- what is not allowed: a module or a row that is not there, a read-only row, a value that the room does not permit
 pub data Forbidden (r : Room) (owner row : ℕ) (x : ℤ) : Type 0 where
   missing : Missing r.table owner row → Forbidden r owner row x
-  read_only : (p : Parameter) → by_row r.table owner row ≡ At p → p.row.settable ≡ false → Forbidden r owner row x
-  not_permitted : (p : Parameter) → by_row r.table owner row ≡ At p → permitted (row_in r p) x ≡ false → Forbidden r owner row x
+  read_only : (p : Parameter) → by_row r.table owner row ≡ Some p → p.row.settable ≡ false → Forbidden r owner row x
+  not_permitted : (p : Parameter) → by_row r.table owner row ≡ Some p → permitted (row_in r p) x ≡ false → Forbidden r owner row x
 
 module _ (r : Room) (owner row : ℕ) (x : ℤ) where
-  found_number : (f : ParameterFound) → by_row r.table owner row ≡ f → change_number r (by_row r.table owner row) x ≡ change_number r f x
-  found_number f e = ap (λ (g : ParameterFound). change_number r g x) e
+  found_number : (f : Option Parameter) → by_row r.table owner row ≡ f → change_number r (by_row r.table owner row) x ≡ change_number r f x
+  found_number f e = ap (λ (g : Option Parameter). change_number r g x) e
 
   forbidden_nine : Forbidden r owner row x → change_number r (by_row r.table owner row) x ≡ 9
   unfolding change_number row_number
-  forbidden_nine (missing m) = found_number Nothing ((exactly_missing r.table owner row).1 m)
+  forbidden_nine (missing m) = found_number None ((exactly_missing r.table owner row).1 m)
   forbidden_nine (read_only p e s) =
-      found_number (At p) e ∙ test_refused ((row_in r p).settable && permitted (row_in r p) x) 9 (first (row_in r p).settable (permitted (row_in r p) x) (row_in-settable r p ∙ s))
+      found_number (Some p) e ∙ test_refused ((row_in r p).settable && permitted (row_in r p) x) 9 (first (row_in r p).settable (permitted (row_in r p) x) (row_in-settable r p ∙ s))
     where
       first : (a b : Bool) → a ≡ false → (a && b) ≡ false
       first a b h = rw h refl
   forbidden_nine (not_permitted p e h) =
-      found_number (At p) e ∙ test_refused ((row_in r p).settable && permitted (row_in r p) x) 9 (second (row_in r p).settable (permitted (row_in r p) x) h)
+      found_number (Some p) e ∙ test_refused ((row_in r p).settable && permitted (row_in r p) x) 9 (second (row_in r p).settable (permitted (row_in r p) x) h)
     where
       second : (a b : Bool) → b ≡ false → (a && b) ≡ false
       second a b h = rw (h, and-false a) refl
@@ -71,14 +69,14 @@ module _ (r : Room) (vs : List ℤ) (reply_room owner row : ℕ) (x : ℤ) where
     number : ℕ
     verdict : Verdict r vs reply_room owner row x number
 
-  judged_row : sound r.table ≡ true → values_sound r vs ≡ true → reply_limit ≤ reply_room → (f : ParameterFound) → by_row r.table owner row ≡ f → Judged
-  judged_row s v l (At p) e = go p.row.settable refl (permitted (row_in r p) x) refl
+  judged_row : sound r.table ≡ true → values_sound r vs ≡ true → reply_limit ≤ reply_room → (f : Option Parameter) → by_row r.table owner row ≡ f → Judged
+  judged_row s v l (Some p) e = go p.row.settable refl (permitted (row_in r p) x) refl
     where
       go : (a : Bool) → p.row.settable ≡ a → (b : Bool) → permitted (row_in r p) x ≡ b → Judged
       go true a true b = record { number = 0; verdict = made (record { table = s; right = v; room = l; parameter = p; found = e; settable = a; permits = b }) }
       go true a false b = record { number = 9; verdict = forbidden s v l (not_permitted p e b) }
       go false a b h = record { number = 9; verdict = forbidden s v l (read_only p e a) }
-  judged_row s v l Nothing e = record { number = 9; verdict = forbidden s v l (missing ((exactly_missing r.table owner row).0 e)) }
+  judged_row s v l None e = record { number = 9; verdict = forbidden s v l (missing ((exactly_missing r.table owner row).0 e)) }
 
   judged : Judged
   judged = go (sound r.table) refl (values_sound r vs) refl (leb reply_limit reply_room) refl

@@ -1,5 +1,5 @@
 -- What a change tells and leaves: a refused one, one that is told and one that is not; one value alone changes, and permitted values stay permitted.
-use Rattle.std.specs.Prelude.{◌≡◌, Bool, false, ◌&&◌, List, ℕ, zero, suc, ◌<◌, ◌≤◌, ℤ, pos, length, get_or, set}
+use Rattle.std.specs.Prelude.{◌≡◌, Bool, false, ◌&&◌, List, ℕ, zero, suc, ◌<◌, ◌≤◌, ℤ, pos, length, get_or, set, Option, Some, None}
 use Rattle.std.proofs.Math.Path.{refl, ap}
 use Rattle.std.proofs.Common.{sym, ◌∙◌, arith, length-set, get_or-set_other, get_or-set_same}
 use Rattle.std.proofs.Math.Bool.{true, and-false}
@@ -19,13 +19,11 @@ use Rattle.values.specs.Values.{equal, values_sound}
 use Rattle.values.specs.Values.Laws.{equal-refl, equal-true, set_sound, value_inside}
 use Rattle.values.specs.Values.Number.{passed_values, values_passed}
 use Rattle.values.specs.declared.parameter.Parameter.{Parameter}
-use Rattle.values.specs.declared.parameter.ParameterFound.{ParameterFound}
-use Rattle.values.specs.declared.parameter.ParameterFound.TheVariants.{At, Nothing}
 use Rattle.spelling.specs.Reply.{get_reply}
 use Rattle.serial_port.specs.Refusal.{reply_limit}
 use Rattle.serial_port.specs.Refusal.Number.{passed_reply, reply_passed}
 use Rattle.panel.specs.Panel.{Changes, changes, change_number, changed, notice, notified, panel, panel_number, refused, row_number, tell, tells, Told}
-use Rattle.panel.specs.declared.Changed.{Changed}
+use Rattle.panel.specs.Panel.{Changed}
 
 -- ---- the promise
 
@@ -41,10 +39,10 @@ module _ {r : Room} {vs : List ℤ} {buffer : List ℕ} {owner row : ℕ} {x : �
 
 -- ---- the number, and a refusal
 
-tell-number : (t : List ℕ) (n : ℕ) (vs : List ℤ) (buffer : List ℕ) (f : ParameterFound) (x : ℤ) → (tell t n vs buffer f x).number ≡ n
+tell-number : (t : List ℕ) (n : ℕ) (vs : List ℤ) (buffer : List ℕ) (f : Option Parameter) (x : ℤ) → (tell t n vs buffer f x).number ≡ n
 unfolding tell changed refused
-tell-number t zero vs buffer (At p) x = refl
-tell-number t zero vs buffer Nothing x = refl
+tell-number t zero vs buffer (Some p) x = refl
+tell-number t zero vs buffer None x = refl
 tell-number t (suc n) vs buffer f x = refl
 
 module _ (r : Room) (vs : List ℤ) (buffer : List ℕ) (owner row : ℕ) (x : ℤ) where
@@ -61,7 +59,7 @@ module _ (r : Room) (vs : List ℤ) (buffer : List ℕ) (owner row : ℕ) (x : �
 -- ---- an accepted change
 
 -- the row may be set, and the room permits the value
-allowed : (r : Room) (p : Parameter) (x : ℤ) → change_number r (At p) x ≡ 0 → (p.row.settable ≡ true) × (permitted (row_in r p) x ≡ true)
+allowed : (r : Room) (p : Parameter) (x : ℤ) → change_number r (Some p) x ≡ 0 → (p.row.settable ≡ true) × (permitted (row_in r p) x ≡ true)
 unfolding change_number row_number
 allowed r p x e =
     let b = passed_test ((row_in r p).settable && permitted (row_in r p) x) 8 e in (
@@ -69,7 +67,7 @@ allowed r p x e =
       both_right (row_in r p).settable (permitted (row_in r p) x) b,
     )
 
-pub allows : (r : Room) (p : Parameter) (x : ℤ) → p.row.settable ≡ true → permitted (row_in r p) x ≡ true → change_number r (At p) x ≡ 0
+pub allows : (r : Room) (p : Parameter) (x : ℤ) → p.row.settable ≡ true → permitted (row_in r p) x ≡ true → change_number r (Some p) x ≡ 0
 unfolding change_number row_number
 allows r p x s h = test_passed ((row_in r p).settable && permitted (row_in r p) x) 9 (both (row_in r p).settable (permitted (row_in r p) x) (row_in-settable r p ∙ s) h)
   where
@@ -82,7 +80,7 @@ pub record Accepted (r : Room) (vs : List ℤ) (reply_room owner row : ℕ) (x :
   pub right : values_sound r vs ≡ true
   pub room : reply_limit ≤ reply_room
   pub parameter : Parameter
-  pub found : by_row r.table owner row ≡ At parameter
+  pub found : by_row r.table owner row ≡ Some parameter
   pub settable : parameter.row.settable ≡ true
   pub permits : permitted (row_in r parameter) x ≡ true
 
@@ -96,12 +94,12 @@ module _ (r : Room) (vs : List ℤ) (reply_room owner row : ℕ) (x : ℤ) where
       let d = all_passed _ _ c.1 in
       go (by_row r.table owner row) refl (passed_table r.table a.0) (passed_values r vs b.0) (passed_reply reply_limit reply_room c.0) d.0
     where
-      go : (f : ParameterFound) → by_row r.table owner row ≡ f → sound r.table ≡ true → values_sound r vs ≡ true → reply_limit ≤ reply_room → change_number r f x ≡ 0
+      go : (f : Option Parameter) → by_row r.table owner row ≡ f → sound r.table ≡ true → values_sound r vs ≡ true → reply_limit ≤ reply_room → change_number r f x ≡ 0
           → Accepted r vs reply_room owner row x
-      go (At p) q s v l n =
+      go (Some p) q s v l n =
           let h = allowed r p x n in
           record { table = s; right = v; room = l; parameter = p; found = q; settable = h.0; permits = h.1 }
-      go Nothing q s v l n = absurd (unfold change_number in omega arith)
+      go None q s v l n = absurd (unfold change_number in omega arith)
 
   pub accepted : Accepted r vs reply_room owner row x → panel_number r vs reply_room owner row x ≡ 0
   unfolding panel_number
@@ -110,7 +108,7 @@ module _ (r : Room) (vs : List ℤ) (reply_room owner row : ℕ) (x : ℤ) where
       (passes (table_passed r.table a.table)
       (passes (values_passed r vs a.right)
       (passes (reply_passed reply_limit reply_room a.room)
-      (passes (ap (λ (f : ParameterFound). change_number r f x) a.found ∙ allows r a.parameter x a.settable a.permits) all))))
+      (passes (ap (λ (f : Option Parameter). change_number r f x) a.found ∙ allows r a.parameter x a.settable a.permits) all))))
 
 module _ (r : Room) (vs : List ℤ) (buffer : List ℕ) (owner row : ℕ) (x : ℤ) (a : Accepted r vs (length buffer) owner row x) where
   abbrev p : Parameter

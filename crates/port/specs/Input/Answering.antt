@@ -1,5 +1,5 @@
 -- Rules for the code that answers one read: its bytes, and the ways in which the read ends.
-use Rattle.std.specs.Prelude.{◌≡◌, refl, true, List, ℕ, ◌*◌, ◌≤◌, ℤ, length, take}
+use Rattle.std.specs.Prelude.{◌≡◌, refl, true, List, ℕ, ◌*◌, ◌≤◌, ℤ, length, take, Ok, Err}
 use Rattle.std.proofs.Common.{arith}
 use Rattle.text.specs.Cut.Part.{part-counts}
 use Rattle.text.specs.Written.Laws.{wrote_length}
@@ -12,7 +12,7 @@ use Rattle.serial_port.specs.declared.port.Port.{Port}
 use Rattle.serial_port.specs.declared.stream.Served.{Served}
 use Rattle.port.specs.Input.{Answers, answers, AnswersRead, nothing, something, bytes_of}
 use Rattle.port.specs.declared.bytes.Answered.{Answered}
-use Rattle.port.specs.declared.standard_input.Came.TheVariants.{Nothing, Written, Unwritten}
+use Rattle.port.specs.declared.standard_input.Ended.TheVariants.{Nothing, Unwritten}
 
 -- ---- the bytes of a read
 
@@ -30,7 +30,7 @@ all_answered r vs p bs out s vs' out' h g l a =
 -- ---- one read
 
 module _ (r : Room) (vs : List ℤ) (p : Port) (input out : List ℕ) where
-  pub read_nothing : AnswersRead r vs p input out (record { port = p; came = Nothing }) vs out
+  pub read_nothing : AnswersRead r vs p input out (record { port = p; came = Err Nothing }) vs out
   read_nothing = nothing refl refl refl refl
 
   module _ (n : ℕ) (a : Answered) (vs' : List ℤ) (out' : List ℕ) (h : Answers r vs p (take n input) out a vs' out') where
@@ -41,11 +41,11 @@ module _ (r : Room) (vs : List ℤ) (p : Port) (input out : List ℕ) where
         go : Answers r vs p (take n input) out a vs' out' → a.sent ≤ length out'
         go (answers replies room values seen few) = omega (arith, wrote_length replies)
 
-    pub read_written : (n ≡ 0 → ⊥) → n ≤ length input → AnswersRead r vs p input out (record { port = a.port; came = Written n }) vs' out'
+    pub read_written : (n ≡ 0 → ⊥) → n ≤ length input → AnswersRead r vs p input out (record { port = a.port; came = Ok n }) vs' out'
     unfolding bytes_of
     read_written z l = something a.sent (omega arith) l h
 
-    pub read_unwritten : (n ≡ 0 → ⊥) → n ≤ length input → AnswersRead r vs p input out (record { port = a.port; came = Unwritten n }) vs' out'
+    pub read_unwritten : (n ≡ 0 → ⊥) → n ≤ length input → AnswersRead r vs p input out (record { port = a.port; came = Err (Unwritten n) }) vs' out'
     unfolding bytes_of
     read_unwritten z l = something a.sent (omega arith) l h
 

@@ -1,5 +1,7 @@
 -- Rules for the code that answers read after read.
-use Rattle.std.specs.Prelude.{◌≡◌, refl, true, List, [], ◌++◌, ℕ, ◌+◌, ◌*◌, ◌-◌, ◌≤◌, ℤ, length, take}
+use Rattle.std.specs.Prelude.{◌≡◌, refl, Bool, true, false, List, [], ◌++◌, ℕ, ◌+◌, ◌*◌, ◌≤◌, ℤ, length, take, Ok, Err, is_err}
+use Rattle.std.specs.declared.result.Result.{Result}
+use Rattle.std.proofs.lemmas.Bool.{false≢true}
 use Rattle.std.proofs.Common.{sym, ◌∙◌, arith, length-append, length-take-le}
 use Rattle.room.specs.Table.{sound}
 use Rattle.values.specs.Room.{Room}
@@ -11,16 +13,17 @@ use Rattle.serial_port.specs.Stream.Kept.{flow-right}
 use Rattle.serial_port.specs.declared.port.Port.{Port}
 use Rattle.port.specs.Input.{Answers, answers, AnswersRead, nothing, something, bytes_of, AnswersAll, answers_all}
 use Rattle.port.specs.declared.bytes.Answered.{Answered}
-use Rattle.port.specs.declared.standard_input.Came.{Came}
-use Rattle.port.specs.declared.standard_input.Came.TheVariants.{Nothing, Written, Unwritten}
+use Rattle.port.specs.declared.standard_input.Ended.{Ended}
+use Rattle.port.specs.declared.standard_input.Ended.TheVariants.{Nothing}
 use Rattle.port.specs.declared.standard_input.Turn.{Turn}
 
--- a read whose replies were written is none of which nothing came, and none whose replies were not
-nothing_written : {c : Came} {n : ℕ} → c ≡ Nothing → c ≡ Written n → ⊥
-nothing_written e w = let x : ◌≡◌ {A = ℕ} 0 1 = cc in omega arith
+-- a read whose replies were written is none of which nothing came
+nothing_written : {c : Result ℕ Ended} {n : ℕ} → c ≡ Err Nothing → c ≡ Ok n → ⊥
+nothing_written e w = cc
 
-unwritten_written : {c : Came} {m n : ℕ} → c ≡ Unwritten m → c ≡ Written n → ⊥
-unwritten_written e w = let x : ◌≡◌ {A = ℕ} 0 1 = cc in omega arith
+-- nor is it a last one
+ended_written : {c : Result ℕ Ended} {n : ℕ} → is_err c ≡ true → c ≡ Ok n → ⊥
+ended_written e w = false≢true (rw w at e)
 
 -- bs were fed to the port p and the values vs, and left vs' and q
 pub record Fed (r : Room) (vs : List ℤ) (p : Port) (bs : List ℕ) (vs' : List ℤ) (q : Port) : Type 0 where
@@ -40,12 +43,12 @@ fed_more r vs p bs vs' q more out a vs'' out' s f (answers replies room values s
       few = few;
     }
 
--- so far bytes were answered, one or more in each turn, of which `turns` are left; and the buffers are as long as they were
+-- in so many turns bytes were answered, one or more in each; and the buffers are as long as they were
 pub record Reads (r : Room) (vs : List ℤ) (p : Port) (input out : List ℕ) (vs' : List ℤ) (input' out' : List ℕ) (q : Port) (turns : ℕ) : Type 0 where
   pub sounds : sound r.table ≡ true
   pub bytes : List ℕ
   pub fed : Fed r vs p bytes vs' q
-  pub turned : 18446744073709551615 ≤ turns + length bytes
+  pub turned : turns ≤ length bytes
   pub size : length vs' ≡ length vs
   pub input-long : length input' ≡ length input
   pub out_long : length out' ≡ length out
@@ -53,7 +56,7 @@ pub record Reads (r : Room) (vs : List ℤ) (p : Port) (input out : List ℕ) (v
 
 module _ (r : Room) (vs : List ℤ) (p : Port) (input out : List ℕ) where
   pub reads_start : sound r.table ≡ true → values_sound r vs ≡ true → p.len ≤ 64 → 64 * length input ≤ length out
-      → Reads r vs p input out vs input out p 18446744073709551615
+      → Reads r vs p input out vs input out p 0
   reads_start s g k h =
       record {
         sounds = s;
@@ -91,12 +94,12 @@ module _ (r : Room) (vs : List ℤ) (p : Port) (input out : List ℕ) where
       longer : 1 ≤ bytes_of g.came → bytes_of g.came ≤ length input'' → length h.bytes + 1 ≤ length more
       longer some within = simp length-append (omega (arith, length-take-le (bytes_of g.came) input'' within))
 
-      pub reads_next : (n : ℕ) → g.came ≡ Written n → (turns ≡ 0 → ⊥) → length vs'' ≡ length vs'
-          → length input'' ≡ length input' → length out'' ≡ length out' → Reads r vs p input out vs'' input'' out'' g.port (turns - 1)
-      reads_next n e z i j k = go a
+      pub reads_next : (b : Bool) → b ≡ is_err g.came → b ≡ false → length vs'' ≡ length vs'
+          → length input'' ≡ length input' → length out'' ≡ length out' → Reads r vs p input out vs'' input'' out'' g.port (turns + 1)
+      reads_next b d e i j k = go a
         where
-          go : AnswersRead r vs' q input'' out' g vs'' out'' → Reads r vs p input out vs'' input'' out'' g.port (turns - 1)
-          go (nothing none port values replies) = absurd (nothing_written none e)
+          go : AnswersRead r vs' q input'' out' g vs'' out'' → Reads r vs p input out vs'' input'' out'' g.port (turns + 1)
+          go (nothing none port values replies) = absurd (false≢true (sym e ∙ d ∙ rw none refl))
           go (something sent some within b) =
               record {
                 sounds = h.sounds;
@@ -110,25 +113,22 @@ module _ (r : Room) (vs : List ℤ) (p : Port) (input out : List ℕ) where
               }
 
       -- the last read
-      ended : ((n : ℕ) → g.came ≡ Written n → 18446744073709551615 ≤ length h.bytes) → AnswersAll r vs p g vs''
+      ended : ((n : ℕ) → g.came ≡ Ok n → 18446744073709551615 ≤ length h.bytes) → AnswersAll r vs p g vs''
       ended e = go a
         where
           go : AnswersRead r vs' q input'' out' g vs'' out'' → AnswersAll r vs p g vs''
           go (nothing none port values replies) =
               let f = h.fed in
-              let never : (n : ℕ) → g.came ≡ Written n → 18446744073709551616 ≤ length h.bytes = λ n w. absurd (nothing_written none w) in
+              let never : (n : ℕ) → g.came ≡ Ok n → 18446744073709551616 ≤ length h.bytes = λ n w. absurd (nothing_written none w) in
               answers_all h.bytes (values ∙ f.values) (rw values f.right) (rw port f.seen) (rw port f.few) never
           go (something sent some within b) =
               let f = more-fed sent b in
               answers_all more f.values f.right f.seen f.few (λ n w. omega (arith, longer some within, e n w))
 
-      pub reads_nothing : g.came ≡ Nothing → AnswersAll r vs p g vs''
-      reads_nothing e = ended (λ n w. absurd (nothing_written e w))
+      pub reads_ended : (b : Bool) → b ≡ is_err g.came → b ≡ true → AnswersAll r vs p g vs''
+      reads_ended b d e = ended (λ n w. absurd (ended_written (sym d ∙ e) w))
 
-      pub reads_unwritten : (n : ℕ) → g.came ≡ Unwritten n → AnswersAll r vs p g vs''
-      reads_unwritten m e = ended (λ n w. absurd (unwritten_written e w))
-
-      pub reads_turned : turns ≡ 0 → AnswersAll r vs p g vs''
+      pub reads_turned : 18446744073709551615 ≤ turns → AnswersAll r vs p g vs''
       reads_turned z = ended (λ n w. omega (arith, h.turned))
 
-pub ruleset reads = (reads_start, reads_right, reads_few, reads_room, reads_next, reads_nothing, reads_unwritten, reads_turned)
+pub ruleset reads = (reads_start, reads_right, reads_few, reads_room, reads_next, reads_ended, reads_turned)

@@ -1,7 +1,6 @@
 -- What the tests of a label leave, for each of their answers.
-use Rattle.std.specs.Prelude.{◌≡◌, refl, true, false, not, List, ℕ, ◌≤◌, ◌<◌, eqb, leb, length}
-use Rattle.std.proofs.Common.{sym, arith, ne_eqb, le-leb}
-use Rattle.std.proofs.Math.Bool.{and-true}
+use Rattle.std.specs.Prelude.{◌≡◌, false, not, List, ℕ, ◌≤◌, ◌<◌, eqb, length}
+use Rattle.std.proofs.Common.{arith, le-leb}
 use Rattle.std.proofs.lemmas.Bool.{lt-leb}
 use Rattle.record.specs.Field.{label_byte, label_right}
 use Rattle.record.specs.Field.Run.{run, run-every}
@@ -12,15 +11,13 @@ pub byte_low : (b : ℕ) → b < 32 → false ≡ label_byte b
 unfolding label_byte
 byte_low b l = rw (lt-leb 32 b l)
 
-pub byte_high : (b : ℕ) → 34 < b → leb b 126 ≡ label_byte b
+pub byte_high : (b : ℕ) → 126 < b → false ≡ label_byte b
 unfolding label_byte
-byte_high b l =
-    let n : not (eqb b 34) ≡ true = rw (ne_eqb b 34 (λ e. omega arith)) refl in
-    rw (le-leb 32 b (omega arith), n) (sym (and-true (leb b 126)))
+byte_high b l = rw (le-leb 32 b (omega arith), lt-leb b 126 l)
 
-pub byte_quote : (b : ℕ) → 32 ≤ b → b ≤ 34 → not (eqb b 34) ≡ label_byte b
+pub byte_quote : (b : ℕ) → 32 ≤ b → b ≤ 126 → not (eqb b 34) ≡ label_byte b
 unfolding label_byte
-byte_quote b l h = rw (le-leb 32 b l, le-leb b 126 (omega arith))
+byte_quote b l h = rw (le-leb 32 b l, le-leb b 126 h)
 
 -- ---- a label
 

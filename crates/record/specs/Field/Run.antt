@@ -1,10 +1,12 @@
 -- A field: the bytes at its beginning that may stand in a label are the label, where only zero bytes follow.
 use Rattle.std.proofs.Math.Path.{◌≡◌, sym}
-use Rattle.std.specs.Prelude.{refl, Bool, cond, not, ◌&&◌, List, [], ◌∷◌, ℕ, zero, suc, ◌+◌, ◌-◌, ◌≤◌, ◌<◌, eqb, get_or, take, drop}
-use Rattle.std.proofs.Common.{ap, ◌∙◌, add-zero, add-one, arith, drop_of_length-le, length-drop, drop-cons, get_or-drop}
+use Rattle.std.proofs.lemmas.List.Folds.{length-prefix_len}
+use Rattle.std.specs.List.{prefix_len, take_while}
+use Rattle.std.specs.Prelude.{refl, Bool, cond, ◌&&◌, List, [], ◌∷◌, ℕ, zero, suc, ◌+◌, ◌-◌, ◌≤◌, ◌<◌, eqb, get_or, take, drop}
+use Rattle.std.proofs.Common.{ap, ◌∙◌, add-zero, arith, length-drop, get_or-drop}
 use Rattle.std.proofs.Math.Bool.{true, false}
 use Prim.Native.Nat.compare
-use borrow.Author.Tests.{eqb-true, le-leb, ne_eqb, not-true, not-false}
+use borrow.Author.Tests.{eqb-true, le-leb, ne_eqb}
 use Rattle.std.proofs.Math.ListN.{length}
 use Rattle.std.proofs.Math.Seq.{length-take-le}
 use Rattle.text.specs.Cut.{before, index_of}
@@ -59,36 +61,18 @@ run_at test (suc i) (b ∷ s) l e n =
     let k = every-both test b (take i s) e in
     rw k.0 (ap suc (run_at test i s (omega arith) k.1 (λ h. n (omega arith))))
 
--- ---- the pass over the bytes
-
--- the bytes before i meet the test
-pub record Running (test : ℕ → Bool) (s : List ℕ) (i : ℕ) : Type 0 where
-  pub within : i ≤ length s
-  pub rest : run test s ≡ i + run test (drop i s)
-
-pub run-start : (test : ℕ → Bool) (s : List ℕ) → Running test s 0
-run-start test s = record { within = omega arith; rest = omega arith }
-
-run-cons : (test : ℕ → Bool) (b : ℕ) (s : List ℕ) (t : Bool) → test b ≡ t → run test (b ∷ s) ≡ cond t (suc (run test s)) 0
+-- as many are taken from the front as meet the test
+prefix-run : (test : ℕ → Bool) (s : List ℕ) → prefix_len test s ≡ run test s
 unfolding run
-run-cons test b s t e = rw e
+prefix-run test [] = refl
+prefix-run test (b ∷ s) = go (test b) (prefix-run test s)
+  where
+    go : (t : Bool) → prefix_len test s ≡ run test s → cond t (1 + prefix_len test s) 0 ≡ cond t (suc (run test s)) 0
+    go true h = omega (arith, h)
+    go false h = refl
 
-module _ (s : List ℕ) (i : ℕ) (p : Running label_byte s i) where
-  pub run-next : (t : Bool) → i < length s → t ≡ label_byte (get_or s i 0) → not t ≡ false → Running label_byte s (i + 1)
-  run-next t l e n =
-      let c = run-cons label_byte (get_or s i 0) (drop (i + 1) s) true (sym e ∙ not-false t n) in
-      record { within = omega arith; rest = p.rest ∙ rw (drop-cons s i 0 l, ← add-one i, c) (omega arith) }
-
-  pub run-stop : (t : Bool) → i < length s → t ≡ label_byte (get_or s i 0) → not t ≡ true → i ≡ run label_byte s
-  run-stop t l e n =
-      let c = run-cons label_byte (get_or s i 0) (drop (i + 1) s) false (sym e ∙ not-true t n) in
-      sym (p.rest ∙ rw (drop-cons s i 0 l, ← add-one i, c) (omega arith))
-
-  pub run-all : length s ≤ i → i ≡ run label_byte s
-  unfolding run
-  run-all l = sym (p.rest ∙ rw (drop_of_length-le s l) (omega arith))
-
-pub ruleset running = (run-start, run-next, run-stop, run-all)
+pub run-taken : (test : ℕ → Bool) (s : List ℕ) → length (take_while test s) ≡ run test s
+run-taken test s = length-prefix_len test s ∙ prefix-run test s
 
 -- ---- the label ends where the pass does
 

@@ -1,6 +1,6 @@
 -- What the restore list rests on: the promise of the line layer in a room, as one record.
 pub mod Reach
-use Rattle.std.specs.Prelude.{◌≡◌, true, false, cond, List, ℕ, suc, ◌+◌, ◌≤◌, ℤ, pos, length, get_or, set}
+use Rattle.std.specs.Prelude.{◌≡◌, true, false, cond, List, ℕ, suc, ◌+◌, ◌≤◌, ℤ, pos, length, get_or, set, None}
 use Rattle.text.specs.Byte.{is_byte}
 use Rattle.text.specs.Cut.{has}
 use Rattle.text.specs.Every.{every}
@@ -12,7 +12,6 @@ use Rattle.values.specs.declared.parameter.Parameter.{Parameter}
 use Rattle.syntax.specs.Shape.{line_limit}
 use Rattle.spelling.specs.Acknowledgement.{ack}
 use Rattle.line.specs.Answer.{answer}
-use Rattle.line.specs.declared.fault.Fault.TheVariants as fault
 use Rattle.spelling.specs.Say.{say}
 use Rattle.serial_port.specs.Play.Laws.{Right}
 use Rattle.values.specs.Values.{equal}
@@ -34,7 +33,7 @@ pub record Said (r : Room) (p : Parameter) (v x : ℤ) (l : List ℕ) : Type 0 w
   pub bytes : every is_byte l ≡ true
   pub whole : has 0x0D l ≡ false
   pub fits : length l ≤ line_limit
-  pub answered : (vs : List ℤ) → get_or vs (place p) (pos 0) ≡ v → answer r vs l ≡ record { reply = ack; values = set vs (place p) x; fault = fault.Nothing }
+  pub answered : (vs : List ℤ) → get_or vs (place p) (pos 0) ≡ v → answer r vs l ≡ record { reply = ack; values = set vs (place p) x; fault = None }
 
 -- each line has an effect as above, and set lines do as `Said` says
 pub record Lines (r : Room) : Type 0 where

@@ -6,7 +6,7 @@ use Rattle.wish.specs.Listing.{changes, listing, restore, size, size_number}
 use Rattle.wish.specs.Listing.Sizing.{size-refused, size_told_lem, written_fits, written_refused, written_short}
 use Rattle.wish.specs.Listing.Telling.{listed_told, refused-told}
 use Rattle.restore.specs.Demand.{Paired, Restores, Sizes, restores, size_told, sizes, tells}
-use Rattle.restore.specs.declared.Restored.{Restored}
+use Rattle.restore.specs.Restored.{Restored}
 
 -- what the two definitions say
 pub paired : (w : Wish) (buffer : List ℕ) → Paired (size w) (length buffer) (restore w buffer)

@@ -1,5 +1,5 @@
 -- Playing the restore list: it is a byte sequence, each of its lines gets an ACK, and its changes are made.
-use Rattle.std.specs.Prelude.{◌≡◌, true, List, [], ◌∷◌, ℤ, length, set}
+use Rattle.std.specs.Prelude.{◌≡◌, true, List, [], ◌∷◌, ℤ, length, set, None}
 use Rattle.std.proofs.Common.{arith}
 use Rattle.text.specs.Byte.{is_byte}
 use Rattle.text.specs.Byte.Laws.{is_byte_lem}
@@ -9,7 +9,6 @@ use Rattle.values.specs.Parameters.{place}
 use Rattle.spelling.specs.Acknowledgement.{ack}
 use Rattle.spelling.specs.Say.{say}
 use Rattle.values.specs.Room.{Room}
-use Rattle.line.specs.declared.fault.Fault.TheVariants.{Nothing}
 use Rattle.serial_port.specs.Server.{control_space}
 use Rattle.serial_port.specs.Server.Laws.{line_served}
 use Rattle.serial_port.specs.Port.{fresh}
@@ -41,4 +40,4 @@ module _ (r : Room) (lines : Lines r) where
       let line = say r.table c.parameter c.present c.target in
       rw (listing-first r.table c cs)
       (line_acknowledged (control_space r) vs after (made cs after) line (listing r.table cs) (length cs)
-      said.fits said.whole (line_served r vs line ack Nothing after (said.answered vs f.0)) (play-listing cs after s.1 f.1))
+      said.fits said.whole (line_served r vs line ack None after (said.answered vs f.0)) (play-listing cs after s.1 f.1))

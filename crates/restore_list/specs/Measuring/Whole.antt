@@ -9,7 +9,9 @@ use Rattle.catalogue.specs.Catalogue.{row_limit, rows_of}
 use Rattle.catalogue.specs.declared.layout.Layout.{Layout}
 use Rattle.record.specs.Body.{body_length}
 use Rattle.record.specs.Layout.{layout_at}
+use Rattle.room.specs.Table.Steps.{Step, at_module, at_next}
 use Rattle.room.specs.Table.Walk.{Walk, walk_few}
+use Rattle.room.specs.declared.table.Module.{Module}
 use Rattle.values.specs.Parameters.Walk.{module_here}
 use Rattle.wish.specs.Listing.{Change, all_reachable, listing}
 use Rattle.wish.specs.Listing.Laws.{listing-append, listing_none, reachable-append, reachable-none}
@@ -106,5 +108,38 @@ sums_all t vs selection ws number place first bytes lines s l =
     measures_by t (all_changes t vs selection ws) (Within bytes lines)
     (rw (walk_all t vs selection ws number place first s.done s.passed l, s.reach, s.bytes-are, s.lines_are) refl)
 
+-- ---- the same by the module that the walk gives
+
+pub sums_begun : (t : List ℕ) (vs : List ℤ) (selection : List ℕ) (ws : List ℤ) (number place first : ℕ) → Matching t vs selection ws → number ≡ 0 → place ≡ 0 → first ≡ 0
+    → Sums t vs selection ws number place first 0 0
+sums_begun t vs selection ws number place first h a b c = rw (a, b, c) (sums_start t vs selection ws h)
+
+module _ (t : List ℕ) (vs : List ℤ) (selection : List ℕ) (ws : List ℤ) (number place first bytes lines : ℕ) (m : Module) (next_number next_place next_first : ℕ)
+    (st : Step t number place first m next_number next_place next_first) (s : Sums t vs selection ws number place first bytes lines) where
+  pub sum_standing : Standing t vs selection ws m
+  sum_standing =
+      at_module t number place first m next_number next_place next_first st (λ x. Standing t vs selection ws x)
+      (sums_standing t vs selection ws number place first bytes lines s st.inside (layout_at t place) refl)
+
+  module _ (f : Measured) (g : MeasuresModule t (module_changes selection m vs ws) f) where
+    own : MeasuresModule t (module_changes selection (module_here t number place first) vs ws) f
+    own = rw st.gives at g
+
+    pub sum_beyond : f ≡ Beyond → Measures t (all_changes t vs selection ws) Beyond
+    sum_beyond e = sums_beyond t vs selection ws number place first bytes lines s st.inside (layout_at t place) refl f own e
+
+    module _ (b c : ℕ) (e : f ≡ Within b c) where
+      pub sum_bytes_fit : Fits w64 (bytes + b)
+      sum_bytes_fit = sums_bytes_fit t vs selection ws number place first bytes lines s st.inside (layout_at t place) refl f own b c e
+
+      pub sum_lines_fit : Fits w64 (lines + c)
+      sum_lines_fit = sums_lines_fit t vs selection ws number place first bytes lines s st.inside (layout_at t place) refl f own b c e
+
+      pub sum_next : Sums t vs selection ws next_number next_place next_first (bytes + b) (lines + c)
+      sum_next =
+          at_next t number place first m next_number next_place next_first st (λ n p d. Sums t vs selection ws n p d (bytes + b) (lines + c))
+          (sums_next t vs selection ws number place first bytes lines s st.inside (layout_at t place) refl f own b c e
+          (body_length (get_or t place 0)) (length (rows_of (layout_at t place))) refl refl)
+
 pub ruleset summing =
-    (sums_start, sums_standing, sums_beyond, sums_bytes_fit, sums_lines_fit, sums_next, sums_all)
+    (sums_begun, sums_start, sums_standing, sums_beyond, sums_bytes_fit, sums_lines_fit, sums_next, sums_all)

@@ -9,7 +9,9 @@ use Rattle.text.specs.Written.{Wrote}
 use Rattle.text.specs.Written.Laws.{wrote_join, wrote_length, wrote_nothing, past_by}
 use Rattle.record.specs.Body.{body_length}
 use Rattle.record.specs.Layout.{layout_at}
+use Rattle.room.specs.Table.Steps.{Step, at_module, at_next}
 use Rattle.room.specs.Table.Walk.{Walk}
+use Rattle.room.specs.declared.table.Module.{Module}
 use Rattle.values.specs.Parameters.Walk.{module_here}
 use Rattle.wish.specs.Listing.{Change, listing}
 use Rattle.wish.specs.Listing.Laws.{first_fits, listing-append, listing_none}
@@ -71,6 +73,30 @@ module _ (t : List ℕ) (vs : List ℤ) (selection : List ℕ) (ws : List ℤ) (
         long = wrote_length own ∙ s.long;
       }
 
+-- ---- the same by the module that the walk gives
+
+pub puts-begun : (t : List ℕ) (vs : List ℤ) (selection : List ℕ) (ws : List ℤ) (buffer : List ℕ) (number place first : ℕ) → Matching t vs selection ws
+    → length (listing t (all_changes t vs selection ws)) ≤ length buffer → number ≡ 0 → place ≡ 0 → first ≡ 0 → Puts t vs selection ws buffer buffer number place first 0
+puts-begun t vs selection ws buffer number place first h l a b c = rw (a, b, c) (puts-start t vs selection ws buffer h l)
+
+module _ (t : List ℕ) (vs : List ℤ) (selection : List ℕ) (ws : List ℤ) (buffer after : List ℕ) (number place first at : ℕ) (m : Module) (next_number next_place next_first : ℕ)
+    (st : Step t number place first m next_number next_place next_first) (s : Puts t vs selection ws buffer after number place first at) where
+  pub put_standing : Standing t vs selection ws m
+  put_standing =
+      at_module t number place first m next_number next_place next_first st (λ x. Standing t vs selection ws x)
+      (puts-standing t vs selection ws buffer after number place first at s st.inside (layout_at t place) refl)
+
+  pub put_room : at + length (listing t (module_changes selection m vs ws)) ≤ length after
+  put_room =
+      at_module t number place first m next_number next_place next_first st (λ x. at + length (listing t (module_changes selection x vs ws)) ≤ length after)
+      (puts-room t vs selection ws buffer after number place first at s st.inside (layout_at t place) refl)
+
+  pub put_next : (r : ℕ) (new : List ℕ) → Wrote after at (listing t (module_changes selection m vs ws)) r new → Puts t vs selection ws buffer new next_number next_place next_first r
+  put_next r new w =
+      at_next t number place first m next_number next_place next_first st (λ n p d. Puts t vs selection ws buffer new n p d r)
+      (puts-next t vs selection ws buffer after number place first at s st.inside (layout_at t place) refl r new
+      (body_length (get_or t place 0)) (length (rows_of (layout_at t place))) (rw st.gives at w) refl refl)
+
 module _ (t : List ℕ) (vs : List ℤ) (selection : List ℕ) (ws : List ℤ) (buffer after : List ℕ) (number place first at : ℕ)
     (s : Puts t vs selection ws buffer after number place first at) where
   pub puts-length : length after ≡ length buffer
@@ -79,4 +105,4 @@ module _ (t : List ℕ) (vs : List ℤ) (selection : List ℕ) (ws : List ℤ) (
   pub puts-all : length t ≤ place → Wrote buffer 0 (listing t (all_changes t vs selection ws)) at after
   puts-all l = rw (walk_all t vs selection ws number place first s.done s.passed l) s.wrote
 
-pub ruleset putting = (puts-start, puts-standing, puts-room, puts-next, puts-length, puts-all)
+pub ruleset putting = (puts-begun, puts-start, puts-standing, puts-room, puts-next, puts-length, puts-all)

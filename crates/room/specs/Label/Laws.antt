@@ -1,5 +1,5 @@
 -- What the search for a bearer tells of the module found.
-use Rattle.std.specs.Prelude.{◌≡◌, refl, Bool, true, false, cond, List, [], ◌∷◌, ℕ, zero, suc, ◌+◌, ◌≤◌, length}
+use Rattle.std.specs.Prelude.{◌≡◌, refl, Bool, true, false, cond, List, [], ◌∷◌, ℕ, zero, suc, ◌+◌, ◌≤◌, length, Some}
 use Rattle.std.proofs.Common.{sym, ap, subst, ◌∙◌, arith}
 use Rattle.catalogue.specs.Catalogue.{known_layout}
 use Rattle.room.specs.Table.{module_at, modules, sound}
@@ -8,46 +8,44 @@ use Rattle.room.specs.Table.Modules.{ModuleIn, at_first, at_others, module_in, m
 use Rattle.room.specs.Label.{bearer, bearers_in, exactly_one, label, same}
 use Rattle.room.specs.Label.Match.{same_refl, same_true}
 use Rattle.room.specs.declared.table.Module.{Module}
-use Rattle.room.specs.declared.table.ModuleFound.TheVariants.{At}
-use Rattle.room.specs.declared.label.Bearer.TheVariants.{Only}
 
 -- ---- one of the modules
 
 -- m is the module n of a list, and bears the text
 record Bears (t text : List ℕ) (ms : List Module) (m : Module) : Type 0 where
   n : ℕ
-  found : module_at ms n ≡ At m
+  found : module_at ms n ≡ Some m
   labelled : label t m ≡ text
 
-one_alone : (a m : Module) (ms : List Module) → exactly_one (a ∷ ms) ≡ Only m → a ≡ m
+one_alone : (a m : Module) (ms : List Module) → exactly_one (a ∷ ms) ≡ Some m → a ≡ m
 unfolding exactly_one
 one_alone a m [] e = cc
 one_alone a m (b ∷ ms) e = absurd (let z : ◌≡◌ {A = ℕ} 0 1 = cc in omega arith)
 
-two_none : (a m : Module) (ms : List Module) → exactly_one (a ∷ ms) ≡ Only m → ms ≡ []
+two_none : (a m : Module) (ms : List Module) → exactly_one (a ∷ ms) ≡ Some m → ms ≡ []
 unfolding exactly_one
 two_none a m [] e = refl
 two_none a m (b ∷ ms) e = absurd (let z : ◌≡◌ {A = ℕ} 0 1 = cc in omega arith)
 
-none_alone : (m : Module) → exactly_one [] ≡ Only m → ⊥
+none_alone : (m : Module) → exactly_one [] ≡ Some m → ⊥
 unfolding exactly_one
 none_alone m e = let z : ◌≡◌ {A = ℕ} 0 1 = cc in omega arith
 
-bears_only : (t text : List ℕ) (ms : List Module) (m : Module) → exactly_one (bearers_in t text ms) ≡ Only m → Bears t text ms m
+bears_only : (t text : List ℕ) (ms : List Module) (m : Module) → exactly_one (bearers_in t text ms) ≡ Some m → Bears t text ms m
 unfolding bearers_in
 bears_only t text [] m e = absurd (none_alone m e)
 bears_only t text (a ∷ ms) m e = turn (bears_only t text ms m) (same (label t a) text) refl e
   where
-    turn : (exactly_one (bearers_in t text ms) ≡ Only m → Bears t text ms m) → (b : Bool) → same (label t a) text ≡ b
-        → exactly_one (cond b (a ∷ bearers_in t text ms) (bearers_in t text ms)) ≡ Only m → Bears t text (a ∷ ms) m
+    turn : (exactly_one (bearers_in t text ms) ≡ Some m → Bears t text ms m) → (b : Bool) → same (label t a) text ≡ b
+        → exactly_one (cond b (a ∷ bearers_in t text ms) (bearers_in t text ms)) ≡ Some m → Bears t text (a ∷ ms) m
     turn next true s h =
         let q : a ≡ m = one_alone a m (bearers_in t text ms) h in
-        record { n = 0; found = at_first a ms ∙ ap At q; labelled = ap (label t) (sym q) ∙ same_true (label t a) text s }
+        record { n = 0; found = at_first a ms ∙ ap Some q; labelled = ap (label t) (sym q) ∙ same_true (label t a) text s }
     turn next false s h =
         let r = next h in
         record { n = suc r.n; found = at_others a ms r.n ∙ r.found; labelled = r.labelled }
 
-bears_first : (t text : List ℕ) (a m : Module) (ms : List Module) → module_at (a ∷ ms) 0 ≡ At m → label t m ≡ text
+bears_first : (t text : List ℕ) (a m : Module) (ms : List Module) → module_at (a ∷ ms) 0 ≡ Some m → label t m ≡ text
     → bearers_in t text (a ∷ ms) ≡ a ∷ bearers_in t text ms
 unfolding bearers_in
 bears_first t text a m ms f l =
@@ -55,7 +53,7 @@ bears_first t text a m ms f l =
     let s : same (label t a) text ≡ true = rw e (same_refl text) in
     rw s
 
-some_bearer : (t text : List ℕ) (ms : List Module) (n : ℕ) (m : Module) → module_at ms n ≡ At m → label t m ≡ text → bearers_in t text ms ≡ [] → ⊥
+some_bearer : (t text : List ℕ) (ms : List Module) (n : ℕ) (m : Module) → module_at ms n ≡ Some m → label t m ≡ text → bearers_in t text ms ≡ [] → ⊥
 unfolding bearers_in
 some_bearer t text [] n m f l e = no_module n m f
 some_bearer t text (a ∷ ms) zero m f l e =
@@ -68,8 +66,8 @@ some_bearer t text (a ∷ ms) (suc n) m f l e = turn (some_bearer t text ms n m 
     turn next true h = let z : ◌≡◌ {A = ℕ} 0 1 = cc in omega arith
     turn next false h = next h
 
-only_one : (t text : List ℕ) (ms : List Module) (n : ℕ) (a m : Module) → module_at ms n ≡ At a → label t a ≡ text
-    → exactly_one (bearers_in t text ms) ≡ Only m → a ≡ m
+only_one : (t text : List ℕ) (ms : List Module) (n : ℕ) (a m : Module) → module_at ms n ≡ Some a → label t a ≡ text
+    → exactly_one (bearers_in t text ms) ≡ Some m → a ≡ m
 unfolding bearers_in
 only_one t text [] n a m f l e = no_module n a f
 only_one t text (x ∷ ms) zero a m f l e =
@@ -77,8 +75,8 @@ only_one t text (x ∷ ms) zero a m f l e =
 only_one t text (x ∷ ms) (suc n) a m f l e =
     turn (only_one t text ms n a m (sym (at_others x ms n) ∙ f) l) (some_bearer t text ms n a (sym (at_others x ms n) ∙ f) l) (same (label t x) text) e
   where
-    turn : (exactly_one (bearers_in t text ms) ≡ Only m → a ≡ m) → (bearers_in t text ms ≡ [] → ⊥) → (b : Bool)
-        → exactly_one (cond b (x ∷ bearers_in t text ms) (bearers_in t text ms)) ≡ Only m → a ≡ m
+    turn : (exactly_one (bearers_in t text ms) ≡ Some m → a ≡ m) → (bearers_in t text ms ≡ [] → ⊥) → (b : Bool)
+        → exactly_one (cond b (x ∷ bearers_in t text ms) (bearers_in t text ms)) ≡ Some m → a ≡ m
     turn next some true h = absurd (some (two_none x m (bearers_in t text ms) h))
     turn next some false h = next h
 
@@ -87,7 +85,7 @@ only_one t text (x ∷ ms) (suc n) a m f l e =
 -- the module found stands in the table at its own number, and bears the text
 pub record Found (t text : List ℕ) (m : Module) : Type 0 where
   pub stands : ModuleIn t m.number m
-  pub found : module_at (modules t) m.number ≡ At m
+  pub found : module_at (modules t) m.number ≡ Some m
   pub labelled : label t m ≡ text
   pub right : label_right text ≡ true
   pub known : known_layout m.layout ≡ true
@@ -98,7 +96,7 @@ pub module_label : (t : List ℕ) (n : ℕ) (m : Module) → ModuleIn t n m → 
 unfolding label
 module_label t n m h = record_label t m.number m.place m.first h.walk h.inside
 
-pub bearer-found : (t text : List ℕ) (m : Module) → sound t ≡ true → bearer t text ≡ Only m → Found t text m
+pub bearer-found : (t text : List ℕ) (m : Module) → sound t ≡ true → bearer t text ≡ Some m → Found t text m
 unfolding bearer
 bearer-found t text m s e =
     let b = bears_only t text (modules t) m e in
@@ -113,6 +111,6 @@ bearer-found t text m s e =
     }
 
 -- no other module bears the text
-pub bearer-alone : (t text : List ℕ) (n : ℕ) (a m : Module) → module_at (modules t) n ≡ At a → label t a ≡ text → bearer t text ≡ Only m → a ≡ m
+pub bearer-alone : (t text : List ℕ) (n : ℕ) (a m : Module) → module_at (modules t) n ≡ Some a → label t a ≡ text → bearer t text ≡ Some m → a ≡ m
 unfolding bearer
 bearer-alone t text n a m = only_one t text (modules t) n a m

@@ -1,5 +1,5 @@
 -- The search for the module that alone bears a text.
-use Rattle.std.specs.Prelude.{◌≡◌, refl, Bool, true, false, not, List, [], ◌∷◌, ℕ, ◌+◌, ◌-◌, ◌≤◌, ◌<◌, eqb, length, get_or, take, drop}
+use Rattle.std.specs.Prelude.{◌≡◌, refl, Bool, true, false, not, List, [], ◌∷◌, ℕ, ◌+◌, ◌-◌, ◌≤◌, ◌<◌, eqb, length, get_or, take, drop, Option, Some, None}
 use Rattle.std.proofs.Math.Path.{sym}
 use Rattle.std.proofs.Common.{◌∙◌, arith, eqb-true, drop_of_length-le, length-take}
 use Rattle.std.proofs.lemmas.Bool.{eqb-false, not-true, not-false}
@@ -16,8 +16,6 @@ use Rattle.room.specs.Label.{bearer, bearers_in, exactly_one, label, same}
 use Rattle.record.specs.Field.Bytes.{label_right_lem}
 use Rattle.room.specs.Label.Match.{Compared, compared_next, differs, longer, matches, same_not, same_refl}
 use Rattle.room.specs.declared.table.Module.{Module}
-use Rattle.room.specs.declared.label.Bearer.{Bearer}
-use Rattle.room.specs.declared.label.Bearer.TheVariants.{Only, NotOne}
 
 -- ---- the bearers
 
@@ -30,29 +28,29 @@ unfolding bearers_in
 bears t text m ms e = let s : same (label t m) text ≡ true = rw e (same_refl text) in rw s
 
 -- the answer, where one bearer was found before or none
-unfoldable pub counting : Bearer → List Module → Bearer
-counting NotOne ms = exactly_one ms
-counting (Only m) ms = exactly_one (m ∷ ms)
+unfoldable pub counting : Option Module → List Module → Option Module
+counting None ms = exactly_one ms
+counting (Some m) ms = exactly_one (m ∷ ms)
 
-counting-none : (found : Bearer) → counting found [] ≡ found
+counting-none : (found : Option Module) → counting found [] ≡ found
 unfolding counting exactly_one
-counting-none NotOne = refl
-counting-none (Only m) = refl
+counting-none None = refl
+counting-none (Some m) = refl
 
 -- a search that has passed the records before a place
-pub record Sought (t text : List ℕ) (found : Bearer) (number place first : ℕ) : Type 0 where
+pub record Sought (t text : List ℕ) (found : Option Module) (number place first : ℕ) : Type 0 where
   pub walk : Walk t number place first
   pub right : label_right text ≡ true
   pub short : length text ≤ 32
   pub rest : bearer t text ≡ counting found (bearers_in t text (modules_at t number place first))
 
-pub sought_start : (t text : List ℕ) (r : Bool) → sound t ≡ true → r ≡ label_right text → not r ≡ false → Sought t text NotOne 0 0 0
+pub sought_start : (t text : List ℕ) (r : Bool) → sound t ≡ true → r ≡ label_right text → not r ≡ false → Sought t text None 0 0 0
 unfolding bearer counting
 sought_start t text r s e n =
     let right : label_right text ≡ true = sym e ∙ not-false r n in
     record { walk = walk_start t s; right = right; short = (label_right_lem text right).most; rest = rw (modules-start t) }
 
-compared_start : (t text : List ℕ) (found : Bearer) (number place first : ℕ) → Sought t text found number place first → place < length t
+compared_start : (t text : List ℕ) (found : Option Module) (number place first : ℕ) → Sought t text found number place first → place < length t
     → Compared t text (place + 1) (length text)
 compared_start t text found number place first h l =
     let p = take (length text) (drop (place + 1) t) in
@@ -70,7 +68,7 @@ pub record Comparing (t text : List ℕ) (label i : ℕ) : Type 0 where
   pub compared : Compared t text label i
   pub left : 0 < i
 
-pub comparing_start : (t text : List ℕ) (found : Bearer) (number place first : ℕ) → Sought t text found number place first → place < length t
+pub comparing_start : (t text : List ℕ) (found : Option Module) (number place first : ℕ) → Sought t text found number place first → place < length t
     → Comparing t text (place + 1) (length text)
 comparing_start t text found number place first h l =
     record { compared = compared_start t text found number place first h l; left = (label_right_lem text h.right).least }
@@ -86,7 +84,7 @@ pub comparing_next : (t text : List ℕ) (label i : ℕ) → Comparing t text la
     → Comparing t text label (i - 1)
 comparing_next t text label i h e n = record { compared = one_less t text label i h e; left = omega (arith, n) }
 
-pub sought_end : (t text : List ℕ) (found : Bearer) (number place first : ℕ) → Sought t text found number place first → length t ≤ place
+pub sought_end : (t text : List ℕ) (found : Option Module) (number place first : ℕ) → Sought t text found number place first → length t ≤ place
     → found ≡ bearer t text
 unfolding bearers_in
 sought_end t text found number place first h l = sym (h.rest ∙ rw (modules-end t number place first l) (counting-none found))
@@ -103,7 +101,7 @@ ended-full t label i l = record { zero_byte = λ s. absurd (omega arith) }
 pub ended-zero : (t : List ℕ) (label i : ℕ) → not (eqb (get_or t (label + i) 0) 0) ≡ false → Ended t label i
 ended-zero t label i e = record { zero_byte = λ s. eqb-true (get_or t (label + i) 0) 0 (not-false _ e) }
 
-module _ (t text : List ℕ) (found : Bearer) (number place first size rows : ℕ) (h : Sought t text found number place first) (l : place < length t)
+module _ (t text : List ℕ) (found : Option Module) (number place first size rows : ℕ) (h : Sought t text found number place first) (l : place < length t)
     (s : size ≡ body_length (get_or t place 0)) (n : rows ≡ length (rows_of (layout_at t place))) where
   abbrev here : Module
   here = record { number = number; place = place; layout = layout_at t place; first = first }
@@ -134,8 +132,8 @@ module _ (t text : List ℕ) (found : Bearer) (number place first size rows : �
       let e : label t here ≡ text = matches t text (place + 1) c h.right z.zero_byte in
       h.rest ∙ rw (modules-next t number place first h.walk l size rows s n, bears t text here _ e)
 
-  pub sought_first : (m : Layout) → m ≡ layout_at t place → Compared t text (place + 1) 0 → Ended t (place + 1) (length text) → found ≡ NotOne
-      → Sought t text (Only (record { number = number; place = place; layout = m; first = first }))
+  pub sought_first : (m : Layout) → m ≡ layout_at t place → Compared t text (place + 1) 0 → Ended t (place + 1) (length text) → found ≡ None
+      → Sought t text (Some (record { number = number; place = place; layout = m; first = first }))
       (number + 1) (place + 1 + size) (first + rows)
   unfolding counting
   sought_first m q c z f =
@@ -146,12 +144,12 @@ module _ (t text : List ℕ) (found : Bearer) (number place first size rows : �
         rest = rw q (rw f at (matched c z));
       }
 
-  second : (m : Module) → Compared t text (place + 1) 0 → Ended t (place + 1) (length text) → found ≡ Only m → NotOne ≡ bearer t text
+  second : (m : Module) → Compared t text (place + 1) 0 → Ended t (place + 1) (length text) → found ≡ Some m → None ≡ bearer t text
   unfolding counting exactly_one
   second m c z f = sym (rw f at (matched c z))
 
-pub sought_second : (t text : List ℕ) (found : Bearer) (number place first : ℕ) (m : Module) → Sought t text found number place first → place < length t
-    → Compared t text (place + 1) 0 → Ended t (place + 1) (length text) → found ≡ Only m → NotOne ≡ bearer t text
+pub sought_second : (t text : List ℕ) (found : Option Module) (number place first : ℕ) (m : Module) → Sought t text found number place first → place < length t
+    → Compared t text (place + 1) 0 → Ended t (place + 1) (length text) → found ≡ Some m → None ≡ bearer t text
 sought_second t text found number place first m h l =
     second t text found number place first (body_length (get_or t place 0)) (length (rows_of (layout_at t place))) h l refl refl m
 
@@ -183,7 +181,7 @@ no_bearer t text e = walk_induction t (λ number place first. bearers_in t text 
         rw (modules-next t number place first w l (body_length (get_or t place 0)) (length (rows_of (layout_at t place))) refl refl)
         (bears_not t text _ _ (unlike t text number place first w l e) ∙ next)
 
-pub sought_none : (t text : List ℕ) (r : Bool) → sound t ≡ true → r ≡ label_right text → not r ≡ true → NotOne ≡ bearer t text
+pub sought_none : (t text : List ℕ) (r : Bool) → sound t ≡ true → r ≡ label_right text → not r ≡ true → None ≡ bearer t text
 unfolding bearer exactly_one
 sought_none t text r s e n = rw (modules-start t, no_bearer t text (sym e ∙ not-true r n) 0 0 0 (walk_start t s))
 

@@ -1,7 +1,9 @@
 -- Laws of the first refusal, and of the number of one test.
 use Rattle.std.specs.Prelude.{◌≡◌, refl, Bool, true, false, cond, List, [], ◌∷◌, ◌++◌, ℕ, zero, suc}
 use Rattle.std.proofs.Common.{sym, ◌∙◌, arith}
-use Rattle.room.specs.Refusal.{first_refusal}
+use Rattle.room.specs.Refusal.{first_refusal, refusal_number}
+use Rattle.room.specs.declared.refusal.Refusal.{Refusal}
+use Rattle.room.specs.declared.refusal.Refusal.TheVariants.{Table, Values, ReplyBuffer, HeldBytes, Selection, Wanted, OutOfReach, NoRoom, NoSuchChange, Connections}
 
 -- ---- the first of some numbers
 
@@ -59,7 +61,27 @@ told-later a n m ns e z r = r ∙ sym (first-passed n ns (sym e ∙ z))
 pub told-last : (a n : ℕ) → a ≡ n → a ≡ first_refusal (n ∷ [])
 told-last a n e = e ∙ sym (first-last n)
 
-pub ruleset refusing = (told-first, told-later, told-last)
+-- ---- the same for code that passes the refusal on by `?`
+
+pub refusal-some : (e : Refusal) → refusal_number e ≡ 0 → ⊥
+refusal-some Table h = absurd (omega arith)
+refusal-some Values h = absurd (omega arith)
+refusal-some ReplyBuffer h = absurd (omega arith)
+refusal-some HeldBytes h = absurd (omega arith)
+refusal-some Selection h = absurd (omega arith)
+refusal-some Wanted h = absurd (omega arith)
+refusal-some OutOfReach h = absurd (omega arith)
+refusal-some NoRoom h = absurd (omega arith)
+refusal-some NoSuchChange h = absurd (omega arith)
+refusal-some Connections h = absurd (omega arith)
+
+pub told-refusal : (e : Refusal) (n : ℕ) (ns : List ℕ) → refusal_number e ≡ n → refusal_number e ≡ first_refusal (n ∷ ns)
+told-refusal e n ns h = told-first (refusal_number e) n ns h (refusal-some e)
+
+pub told-none : (n m : ℕ) (ns : List ℕ) → 0 ≡ n → m ≡ first_refusal ns → m ≡ first_refusal (n ∷ ns)
+told-none n m ns h r = told-later 0 n m ns h refl r
+
+pub ruleset refusing = (told-refusal, told-none, told-last)
 
 -- ---- the number of one test
 

@@ -1,11 +1,11 @@
 -- The check of a table, record by record.
-use Rattle.std.specs.Prelude.{◌≡◌, refl, Bool, true, false, ◌&&◌, List, [], ◌∷◌, length, get_or, take, drop}
+use Rattle.std.specs.Prelude.{◌≡◌, refl, true, false, ◌&&◌, List, [], ◌∷◌, length, get_or, take, drop}
 use Rattle.std.proofs.Common.{sym, ◌∙◌, length-drop, drop_of_length-le, drop-cons, drop-drop, take_all, Fits}
 use Prim.Native.Nat.{ℕ, zero, suc, ◌+◌, ◌-◌, ◌≤◌, ◌<◌}
 use Rattle.std.proofs.Math.Numerals.{add-one}
 use native.Mathlib.Omega.{arith}
 use Rattle.std.specs.Int.{w64}
-use Rattle.room.specs.Table.{record_limit, records_sound, sound, table_number}
+use Rattle.room.specs.Table.{record_limit, records_sound, sound}
 use Rattle.record.specs.Body.{body_length, body_sound}
 use Rattle.record.specs.Body.Begun.{begun-size, begun-within, body_begun, none_begun, sound_length}
 
@@ -70,14 +70,4 @@ no_record (suc left) = refl
 pub checked_all : (t : List ℕ) (place left : ℕ) → Checked t place left → length t ≤ place → true ≡ sound t
 checked_all t place left h l = sym (h.rest ∙ rw (drop_of_length-le t l) (no_record left))
 
--- the number told
-
-pub number-sound : (t : List ℕ) (b : Bool) → b ≡ sound t → b ≡ true → 0 ≡ table_number t
-unfolding table_number
-number-sound t b e h = let s : sound t ≡ true = sym e ∙ h in rw s
-
-pub number-refused : (t : List ℕ) (b : Bool) → b ≡ sound t → b ≡ false → 1 ≡ table_number t
-unfolding table_number
-number-refused t b e h = let s : sound t ≡ false = sym e ∙ h in rw s
-
-pub ruleset checking = (checked_start, checked_over, checked_not, checked_within, checked_fits, checked_next, checked_all, number-sound, number-refused)
+pub ruleset checking = (checked_start, checked_over, checked_not, checked_within, checked_fits, checked_next, checked_all)

@@ -1,5 +1,5 @@
 -- The modules of a sound table, one by one.
-use Rattle.std.specs.Prelude.{◌≡◌, refl, true, get_or, take, drop}
+use Rattle.std.specs.Prelude.{◌≡◌, refl, true, get_or, take, drop, Some, None}
 use Rattle.std.proofs.Common.{sym, subst, ◌∙◌, arith, take-take}
 use mathlib.Core.List.{List, [], ◌∷◌}
 use Prim.Native.Nat.{ℕ, zero, suc, ◌+◌, ◌≤◌, ◌<◌}
@@ -13,7 +13,6 @@ use Rattle.record.specs.Layout.{layout_at, layout_of}
 use Rattle.record.specs.Field.{label_right}
 use Rattle.room.specs.Table.Walk.{Walk, modules_at, modules-end, modules-next, modules-start, record_inside, walk_body, walk_induction, walk_known, walk_start}
 use Rattle.room.specs.declared.table.Module.{Module}
-use Rattle.room.specs.declared.table.ModuleFound.TheVariants.{At, Nothing}
 
 -- ---- the record at a place
 
@@ -38,11 +37,11 @@ pub record ModuleIn (t : List ℕ) (n : ℕ) (m : Module) : Type 0 where
 
 -- ---- the module with a number
 
-pub at_none : (n : ℕ) → module_at [] n ≡ Nothing
+pub at_none : (n : ℕ) → module_at [] n ≡ None
 unfolding module_at
 at_none n = refl
 
-pub at_first : (a : Module) (ms : List Module) → module_at (a ∷ ms) 0 ≡ At a
+pub at_first : (a : Module) (ms : List Module) → module_at (a ∷ ms) 0 ≡ Some a
 unfolding module_at
 at_first a ms = refl
 
@@ -50,13 +49,13 @@ pub at_others : (a : Module) (ms : List Module) (n : ℕ) → module_at (a ∷ m
 unfolding module_at
 at_others a ms n = refl
 
-pub no_module {ℓ} : {A : Type ℓ} (n : ℕ) (m : Module) → module_at [] n ≡ At m → A
+pub no_module {ℓ} : {A : Type ℓ} (n : ℕ) (m : Module) → module_at [] n ≡ Some m → A
 no_module n m e =
-    let c : Nothing ≡ At m = sym (at_none n) ∙ e in
+    let c : None ≡ Some m = sym (at_none n) ∙ e in
     absurd (let z : ◌≡◌ {A = ℕ} 0 1 = cc in omega arith)
 
-pub the_first : (a m : Module) (ms : List Module) → module_at (a ∷ ms) 0 ≡ At m → a ≡ m
-the_first a m ms e = let c : At a ≡ At m = sym (at_first a ms) ∙ e in cc
+pub the_first : (a m : Module) (ms : List Module) → module_at (a ∷ ms) 0 ≡ Some m → a ≡ m
+the_first a m ms e = let c : Some a ≡ Some m = sym (at_first a ms) ∙ e in cc
 
 -- what holds of no module, and of one before others whose values follow its own, holds of the modules of every table
 module _ (P : (first : ℕ) → List Module → Type 0) (none : (first : ℕ) → P first [])
@@ -76,14 +75,14 @@ module _ (P : (first : ℕ) → List Module → Type 0) (none : (first : ℕ) �
 
 -- the modules from a record on are numbered from its number on
 abbrev Numbered : List ℕ → (number place first : ℕ) → Type 0
-Numbered t number place first = (k : ℕ) (m : Module) → module_at (modules_at t number place first) k ≡ At m → ModuleIn t (number + k) m
+Numbered t number place first = (k : ℕ) (m : Module) → module_at (modules_at t number place first) k ≡ Some m → ModuleIn t (number + k) m
 
 numbered-all : (t : List ℕ) (number place first : ℕ) → Walk t number place first → Numbered t number place first
 numbered-all t = walk_induction t (Numbered t) last more
   where
     last : (number place first : ℕ) → length t ≤ place → Numbered t number place first
     last number place first l k m e =
-        let n : Nothing ≡ At m = sym (at_none k) ∙ (rw (modules-end t number place first l) at e) in
+        let n : None ≡ Some m = sym (at_none k) ∙ (rw (modules-end t number place first l) at e) in
         absurd (let z : ◌≡◌ {A = ℕ} 0 1 = cc in omega arith)
 
     more : (number place first : ℕ) → Walk t number place first → place < length t
@@ -91,7 +90,7 @@ numbered-all t = walk_induction t (Numbered t) last more
     more number place first w l next zero m e =
         let here : Module = record { number = number; place = place; layout = layout_at t place; first = first } in
         let c = modules-next t number place first w l (body_length (get_or t place 0)) (length (rows_of (layout_at t place))) refl refl in
-        let f : At here ≡ At m = sym (at_first here _) ∙ (rw c at e) in
+        let f : Some here ≡ Some m = sym (at_first here _) ∙ (rw c at e) in
         let q : here ≡ m = cc in
         let n : number ≡ number + 0 = omega arith in
         subst (λ (x : Module). ModuleIn t (number + 0) x) q (record { numbered = n; walk = w; inside = l; laid = refl })
@@ -102,7 +101,7 @@ numbered-all t = walk_induction t (Numbered t) last more
         rw n at (next k m (sym (at_others here _ k) ∙ (rw c at e)))
 
 -- every module of a sound table
-pub module_in : (t : List ℕ) → sound t ≡ true → (n : ℕ) (m : Module) → module_at (modules t) n ≡ At m → ModuleIn t n m
+pub module_in : (t : List ℕ) → sound t ≡ true → (n : ℕ) (m : Module) → module_at (modules t) n ≡ Some m → ModuleIn t n m
 module_in t e n m h =
     let z : 0 + n ≡ n = omega arith in
     rw z at (numbered-all t 0 0 0 (walk_start t e) n m (rw (modules-start t) at h))
@@ -110,7 +109,7 @@ module_in t e n m h =
 pub module_known : (t : List ℕ) (n : ℕ) (m : Module) → ModuleIn t n m → known_layout m.layout ≡ true
 module_known t n m h = rw h.laid (walk_known t m.number m.place m.first h.walk h.inside)
 
-pub module_at-known : (t : List ℕ) → sound t ≡ true → (n : ℕ) (m : Module) → module_at (modules t) n ≡ At m → known_layout m.layout ≡ true
+pub module_at-known : (t : List ℕ) → sound t ≡ true → (n : ℕ) (m : Module) → module_at (modules t) n ≡ Some m → known_layout m.layout ≡ true
 module_at-known t e n m h = module_known t n m (module_in t e n m h)
 
 pub module_room : (t : List ℕ) (n : ℕ) (m : Module) → ModuleIn t n m → m.place + 33 ≤ length t

@@ -1,5 +1,5 @@
 -- Rules for the code that answers a finished line.
-use Rattle.std.specs.Prelude.{◌≡◌, refl, true, false, List, ℕ, ℤ}
+use Rattle.std.specs.Prelude.{◌≡◌, refl, true, false, List, ℕ, ℤ, Some}
 use Rattle.std.proofs.Math.ListN.{take}
 use Rattle.text.specs.Written.{Wrote}
 use Rattle.spelling.specs.Acknowledgement.{nak}
@@ -12,7 +12,6 @@ use Rattle.serial_port.specs.Call.{finish}
 use Rattle.serial_port.specs.declared.port.Port.{Port}
 use Rattle.line.specs.Answer.Laws.{reply_by, fault_by, values_by}
 use Rattle.line.specs.declared.answer.Answered.{Answered}
-use Rattle.line.specs.declared.fault.Fault.TheVariants.{At}
 use Rattle.syntax.specs.Shape.{line_limit}
 use Rattle.syntax.specs.declared.cause.Cause.TheVariants.{Overrun}
 
@@ -23,7 +22,7 @@ pub data Finishes {S : Type 0} (server : Server S) (s : S) (p : Port) (buffer : 
 
 module _ (r : Room) (vs : List ℤ) (p : Port) (buffer buffer' : List ℕ) where
   pub finishes_over : (n : ℕ) → p.overrun ≡ true → Wrote buffer 0 (nak 99) n buffer'
-      → Finishes (control_space r) vs p buffer (record { sent = n; fault = At Overrun 64 }) vs buffer'
+      → Finishes (control_space r) vs p buffer (record { sent = n; fault = Some (record { cause = Overrun; place = 64 }) }) vs buffer'
   unfolding view finish line_limit
   finishes_over n o w = finishes (rw (o, overrun_reply r vs) w) (rw (o, overrun_fault r vs) refl) (rw (o, overrun_state r vs) refl)
 

@@ -1,5 +1,5 @@
 -- A whole line, with its 0D, given to a fresh port: the call tells the answer to it.
-use Rattle.std.specs.Prelude.{◌≡◌, true, ℕ, suc, ◌≤◌, ℤ, length}
+use Rattle.std.specs.Prelude.{◌≡◌, true, ℕ, suc, ◌≤◌, ℤ, length, Option}
 use Rattle.std.proofs.Math.Path.{refl}
 use mathlib.Core.List.{List, [], ◌∷◌, ◌++◌}
 use Rattle.std.proofs.lemmas.List.Edits.{sets}
@@ -10,7 +10,7 @@ use Rattle.values.specs.Room.{Room}
 use Rattle.values.specs.Values.{values_sound}
 use Rattle.syntax.specs.Shape.{line_limit}
 use Rattle.line.specs.Answer.{answer}
-use Rattle.line.specs.declared.fault.Fault.{Fault}
+use Rattle.syntax.specs.declared.cause.Malformed.{Malformed}
 use Rattle.serial_port.specs.Call.{call, finish, replied, step, tell}
 use Rattle.serial_port.specs.Call.Laws.{step-finishes}
 use Rattle.serial_port.specs.Port.{fresh, view}
@@ -21,7 +21,7 @@ use Rattle.serial_port.specs.Server.{control_space}
 use Rattle.serial_port.specs.Server.Laws.{line_served}
 use Rattle.serial_port.specs.declared.port.Port.{Port}
 
-module _ (r : Room) (vs : List ℤ) (l reply : List ℕ) (f : Fault) (ws : List ℤ) (a : answer r vs l ≡ record { reply = reply; values = ws; fault = f })
+module _ (r : Room) (vs : List ℤ) (l reply : List ℕ) (f : Option Malformed) (ws : List ℤ) (a : answer r vs l ≡ record { reply = reply; values = ws; fault = f })
     (short : length l ≤ line_limit) (whole : index_of 0x0D l ≡ length l) where
   line_step : step (control_space r) vs fresh (l ++ 0x0D ∷ []) ≡ replied (suc (length l)) (record { reply = reply; fault = f; state = ws })
   unfolding finish

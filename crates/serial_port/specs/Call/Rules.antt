@@ -1,11 +1,10 @@
 -- How a port call keeps its promise: one rule for each way to return.
-use Rattle.std.specs.Prelude.{◌≡◌, true, false, List, length}
+use Rattle.std.specs.Prelude.{◌≡◌, true, false, List, length, None, Option}
 use Rattle.std.proofs.Math.Path.{refl}
 use Prim.Native.Nat.{ℕ, zero, suc, ◌≤◌}
 use Rattle.std.proofs.lemmas.List.Edits.{sets}
 use Rattle.syntax.specs.Shape.{line_limit}
-use Rattle.line.specs.declared.fault.Fault.{Fault}
-use Rattle.line.specs.declared.fault.Fault.TheVariants.{Nothing}
+use Rattle.syntax.specs.declared.cause.Malformed.{Malformed}
 use Rattle.serial_port.specs.Server.{Server}
 use Rattle.serial_port.specs.Port.{view, fresh, gathered, Gathers}
 use Rattle.serial_port.specs.Port.Gathering.{gathered-by, gathered-few}
@@ -16,7 +15,7 @@ use Rattle.serial_port.specs.declared.port.Gathered.{Gathered}
 
 -- the answer of a refusal: the port as it was given, zeros and no fault
 abbrev pub refusal : Port → (number : ℕ) → Called
-refusal p number = record { port = p; consumed = 0; sent = 0; fault = Nothing; number = number }
+refusal p number = record { port = p; consumed = 0; sent = 0; fault = None; number = number }
 
 module _ {S : Type 0} (server : Server S) (s : S) (p : Port) (bs buffer : List ℕ) where
   -- a refusal
@@ -32,12 +31,12 @@ module _ {S : Type 0} (server : Server S) (s : S) (p : Port) (bs buffer : List �
     stepped = rw (gathered-by h) refl
 
     -- no 0D: no reply, and the port with the longer line
-    pub returns_waiting : g.finished ≡ false → Takes server 0 s p bs buffer (record { port = g.port; consumed = g.consumed; sent = 0; fault = Nothing; number = 0 }) s buffer
+    pub returns_waiting : g.finished ≡ false → Takes server 0 s p bs buffer (record { port = g.port; consumed = g.consumed; sent = 0; fault = None; number = 0 }) s buffer
     unfolding tell tells served gathered waiting
     returns_waiting w = takes (rw (stepped, w) refl) (rw (stepped, w) (refl, gathered-few h))
 
     -- an 0D: the reply to the line is written, and the port is fresh
-    pub returns_finished : (q : Port) (n : ℕ) (f : Fault) (s' : S) (buffer' : List ℕ) → g.finished ≡ true → n ≡ length (finish server s (view g.port)).reply
+    pub returns_finished : (q : Port) (n : ℕ) (f : Option Malformed) (s' : S) (buffer' : List ℕ) → g.finished ≡ true → n ≡ length (finish server s (view g.port)).reply
         → f ≡ (finish server s (view g.port)).fault
         → s' ≡ (finish server s (view g.port)).state → buffer' ≡ sets buffer 0 (finish server s (view g.port)).reply → view q ≡ fresh → q.len ≤ line_limit
         → Takes server 0 s p bs buffer (record { port = q; consumed = g.consumed; sent = n; fault = f; number = 0 }) s' buffer'

@@ -1,5 +1,5 @@
 -- What a call tells, field by field: any call, a refused one, and one that is given no bytes.
-use Rattle.std.specs.Prelude.{◌≡◌, ℤ, length}
+use Rattle.std.specs.Prelude.{◌≡◌, ℤ, length, None}
 use Rattle.std.proofs.Math.Path.{refl, ap}
 use Rattle.std.proofs.Common.{sym, ◌∙◌, arith}
 use mathlib.Core.List.{List, [], ◌∷◌}
@@ -7,7 +7,6 @@ use Prim.Native.Nat.{ℕ, zero, suc, ◌≤◌}
 use Rattle.text.specs.Cut.Found.{has-nothing}
 use Rattle.values.specs.Room.{Room}
 use Rattle.syntax.specs.Shape.{line_limit}
-use Rattle.line.specs.declared.fault.Fault.TheVariants.{Nothing}
 use Rattle.serial_port.specs.Server.{Server, control_space}
 use Rattle.serial_port.specs.Port.{view}
 use Rattle.serial_port.specs.Port.Laws.{claim-view}
@@ -42,7 +41,7 @@ module _ {S : Type 0} {server : Server S} {number : ℕ} {s : S} {p : Port} {bs 
 
   -- a refused one counts zero, and tells no fault
   module _ (r : c.number ≡ 0 → ⊥) where
-    refused : (n : ℕ) → number ≡ n → (c.consumed ≡ 0) × (c.sent ≡ 0) × (c.fault ≡ Nothing)
+    refused : (n : ℕ) → number ≡ n → (c.consumed ≡ 0) × (c.sent ≡ 0) × (c.fault ≡ None)
     unfolding tells tell
     refused zero e = absurd (r (number_by_lem ∙ e))
     refused (suc n) e =
@@ -55,12 +54,12 @@ module _ {S : Type 0} {server : Server S} {number : ℕ} {s : S} {p : Port} {bs 
     pub refused-sent : c.sent ≡ 0
     refused-sent = (refused number refl).1
 
-    pub refused-fault : c.fault ≡ Nothing
+    pub refused-fault : c.fault ≡ None
     refused-fault = (refused number refl).2
 
   -- and so does one that is served, and given no bytes
   module _ (z : c.number ≡ 0) (none : length bs ≡ 0) where
-    nothing : (given : List ℕ) → bs ≡ given → length given ≡ 0 → (c.consumed ≡ 0) × (c.sent ≡ 0) × (c.fault ≡ Nothing)
+    nothing : (given : List ℕ) → bs ≡ given → length given ≡ 0 → (c.consumed ≡ 0) × (c.sent ≡ 0) × (c.fault ≡ None)
     unfolding tells tell waiting
     nothing [] e h =
         let told = rw (e, step_waits server s (view p) [] (has-nothing 0x0D)) at (told-as 0 (sym number_by_lem ∙ z)) in
@@ -73,7 +72,7 @@ module _ {S : Type 0} {server : Server S} {number : ℕ} {s : S} {p : Port} {bs 
     pub nothing_sent : c.sent ≡ 0
     nothing_sent = (nothing bs refl none).1
 
-    pub nothing_fault : c.fault ≡ Nothing
+    pub nothing_fault : c.fault ≡ None
     nothing_fault = (nothing bs refl none).2
 
   -- the port that is handed back by a call that is served
@@ -95,7 +94,7 @@ module _ (r : Room) (vs : List ℤ) (p : Port) (bs buffer : List ℕ) where
 
   -- a refusal counts zero and changes nothing
   pub refused-told : (n : ℕ) → call_number r vs (length buffer) p.len ≡ suc n
-      → call r vs p bs buffer ≡ record { number = suc n; consumed = 0; sent = 0; fault = Nothing; state = vs; buffer = buffer }
+      → call r vs p bs buffer ≡ record { number = suc n; consumed = 0; sent = 0; fault = None; state = vs; buffer = buffer }
   unfolding call tell
   refused-told n e = rw e refl
 
@@ -122,7 +121,7 @@ module _ (r : Room) (vs : List ℤ) (p : Port) (buffer : List ℕ) (e : call_num
   nothing_step : step (control_space r) vs (view p) [] ≡ waiting vs 0 (view p)
   nothing_step = step-nothing (control_space r) vs (view p) (claim-view p (served-claim r vs (length buffer) p.len e))
 
-  pub nothing_told : call r vs p [] buffer ≡ record { number = 0; consumed = 0; sent = 0; fault = Nothing; state = vs; buffer = buffer }
+  pub nothing_told : call r vs p [] buffer ≡ record { number = 0; consumed = 0; sent = 0; fault = None; state = vs; buffer = buffer }
   unfolding call tell waiting
   nothing_told = rw (e, nothing_step) refl
 

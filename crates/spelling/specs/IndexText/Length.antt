@@ -56,17 +56,12 @@ pub ruleset group_lengths = (group_length_fits, group_length_is, group_length_sh
 
 pub ruleset cross_lengths = (cross_first_fits, cross_fits, cross_length_is, cross_length_short)
 
-pub one_length : (i : Indices) (a r : ℕ) → i ≡ row.OneGroup a → r ≡ length (arrow_text a) → r ≡ length (index_text (groups_of i Whole))
-one_length i a r e h = rw (one_text i a e) h
-
-pub two_length : (i : Indices) (a b r s : ℕ) → i ≡ row.TwoGroups a b → r ≡ length (arrow_text a) → s ≡ length (arrow_text b) → r + s ≡ length (index_text (groups_of i Whole))
-two_length i a b r s e g h = rw (two_text i a b e) (simp length-append (omega arith))
-
-pub ruleset row_lengths = (one_length, two_length)
-
 module _ (i : Indices) (part : Part) (r : ℕ) where
-  pub whole_length : part ≡ Whole → r ≡ length (index_text (groups_of i Whole)) → r ≡ length (index_text (groups_of i part))
-  whole_length e h = rw e h
+  pub one_length : (a : ℕ) → part ≡ Whole → i ≡ row.OneGroup a → r ≡ length (arrow_text a) → r ≡ length (index_text (groups_of i part))
+  one_length a e k h = rw (e, one_text i a k) h
+
+  pub two_length : (a b s : ℕ) → part ≡ Whole → i ≡ row.TwoGroups a b → r ≡ length (arrow_text a) → s ≡ length (arrow_text b) → r + s ≡ length (index_text (groups_of i part))
+  two_length a b s e k g h = rw (e, two_text i a b k) (simp length-append (omega arith))
 
   pub output_one_length : (a o : ℕ) → part ≡ Output o → i ≡ row.OneGroup a → r ≡ length (cross_text a o) → r ≡ length (index_text (groups_of i part))
   output_one_length a o e k h = rw (e, output_cross i a o k) h
@@ -74,4 +69,4 @@ module _ (i : Indices) (part : Part) (r : ℕ) where
   pub output_two_length : (a b o : ℕ) → part ≡ Output o → i ≡ row.TwoGroups a b → r ≡ length (cross_text b o) → r ≡ length (index_text (groups_of i part))
   output_two_length a b o e k h = rw (e, output_crosses i a b o k) h
 
-pub ruleset index_lengths = (whole_length, output_one_length, output_two_length)
+pub ruleset index_lengths = (one_length, two_length, output_one_length, output_two_length)

@@ -11,13 +11,14 @@ use Rattle.catalogue.specs.Groups.{groups_of}
 use Rattle.catalogue.specs.Groups.Laws.{one_single, two_singles, one_output, two_output}
 use Rattle.catalogue.specs.declared.groups.Group.TheVariants.{Single, Pair}
 use Rattle.catalogue.specs.declared.groups.Groups.TheVariants.{TwoGroups}
+use Rattle.catalogue.specs.declared.groups.Part.{Part}
 use Rattle.catalogue.specs.declared.groups.Part.TheVariants.{Whole, Output}
 use Rattle.catalogue.specs.declared.row.Indices.{Indices}
 use Rattle.catalogue.specs.declared.row.Indices.TheVariants as row
 use Rattle.spelling.specs.IndexText.{group_text, index_text}
 use Rattle.spelling.specs.IndexText.Parts.{room_middle, room_third}
 
--- ---- a number and the byte behind it
+-- ---- a number and the byte after it
 
 unfoldable pub ended_text : (n end : ℕ) → List ℕ
 ended_text n end = digits n ++ (end ∷ [])
@@ -36,7 +37,7 @@ module _ (n end at : ℕ) (l : List ℕ) where
     unfolding ended_text
     wrote_ended r k w = wrote_join v w
 
-pub ruleset ended-writing = (ended-first, ended-second, wrote_ended)
+pub ruleset ended_writing = (ended-first, ended-second, wrote_ended)
 
 -- ---- a pair
 
@@ -100,18 +101,18 @@ module _ (a o at : ℕ) (l : List ℕ) where
 
 pub ruleset cross_writing = (cross_first, cross_second, cross_turned, wrote_cross)
 
-module _ (i : Indices) (o at : ℕ) where
-  pub output_one_room : (a long : ℕ) → i ≡ row.OneGroup a → at + length (index_text (groups_of i (Output o))) ≤ long → at + length (cross_text a o) ≤ long
-  output_one_room a long e h = rw (output_cross i a o e) at h
+module _ (i : Indices) (part : Part) (o at : ℕ) (is : part ≡ Output o) where
+  pub output_one_room : (a long : ℕ) → i ≡ row.OneGroup a → at + length (index_text (groups_of i part)) ≤ long → at + length (cross_text a o) ≤ long
+  output_one_room a long e h = rw (is, output_cross i a o e) at h
 
-  pub output_two_room : (a b long : ℕ) → i ≡ row.TwoGroups a b → at + length (index_text (groups_of i (Output o))) ≤ long → at + length (cross_text b o) ≤ long
-  output_two_room a b long e h = rw (output_crosses i a b o e) at h
+  pub output_two_room : (a b long : ℕ) → i ≡ row.TwoGroups a b → at + length (index_text (groups_of i part)) ≤ long → at + length (cross_text b o) ≤ long
+  output_two_room a b long e h = rw (is, output_crosses i a b o e) at h
 
-  pub wrote_output_one : (a r : ℕ) (l m : List ℕ) → i ≡ row.OneGroup a → Wrote l at (cross_text a o) r m → Wrote l at (index_text (groups_of i (Output o))) r m
-  wrote_output_one a r l m e w = rw (output_cross i a o e) w
+  pub wrote_output_one : (a r : ℕ) (l m : List ℕ) → i ≡ row.OneGroup a → Wrote l at (cross_text a o) r m → Wrote l at (index_text (groups_of i part)) r m
+  wrote_output_one a r l m e w = rw (is, output_cross i a o e) w
 
-  pub wrote_output_two : (a b r : ℕ) (l m : List ℕ) → i ≡ row.TwoGroups a b → Wrote l at (cross_text b o) r m → Wrote l at (index_text (groups_of i (Output o))) r m
-  wrote_output_two a b r l m e w = rw (output_crosses i a b o e) w
+  pub wrote_output_two : (a b r : ℕ) (l m : List ℕ) → i ≡ row.TwoGroups a b → Wrote l at (cross_text b o) r m → Wrote l at (index_text (groups_of i part)) r m
+  wrote_output_two a b r l m e w = rw (is, output_crosses i a b o e) w
 
 pub ruleset output_writing = (output_one_room, output_two_room, wrote_output_one, wrote_output_two)
 
@@ -144,33 +145,33 @@ pub two_text : (i : Indices) (a b : ℕ) → i ≡ row.TwoGroups a b → index_t
 unfolding index_text group_text arrow_text
 two_text i a b e = rw (e, two_singles a b)
 
-module _ (i : Indices) (at : ℕ) where
-  pub one_room : (a long : ℕ) → i ≡ row.OneGroup a → at + length (index_text (groups_of i Whole)) ≤ long → at + length (arrow_text a) ≤ long
-  one_room a long e u = rw (one_text i a e) at u
+module _ (i : Indices) (part : Part) (at : ℕ) (is : part ≡ Whole) where
+  pub one_room : (a long : ℕ) → i ≡ row.OneGroup a → at + length (index_text (groups_of i part)) ≤ long → at + length (arrow_text a) ≤ long
+  one_room a long e u = rw (is, one_text i a e) at u
 
-  pub wrote_one : (a r : ℕ) (l m : List ℕ) → i ≡ row.OneGroup a → Wrote l at (arrow_text a) r m → Wrote l at (index_text (groups_of i Whole)) r m
-  wrote_one a r l m e w = rw (one_text i a e) w
+  pub wrote_one : (a r : ℕ) (l m : List ℕ) → i ≡ row.OneGroup a → Wrote l at (arrow_text a) r m → Wrote l at (index_text (groups_of i part)) r m
+  wrote_one a r l m e w = rw (is, one_text i a e) w
 
   module _ (a b : ℕ) (e : i ≡ row.TwoGroups a b) where
-    pub two_first : (long : ℕ) → at + length (index_text (groups_of i Whole)) ≤ long → at + length (arrow_text a) ≤ long
-    two_first long u = room_first (arrow_text a) (arrow_text b) at long (rw (two_text i a b e) at u)
+    pub two_first : (long : ℕ) → at + length (index_text (groups_of i part)) ≤ long → at + length (arrow_text a) ≤ long
+    two_first long u = room_first (arrow_text a) (arrow_text b) at long (rw (is, two_text i a b e) at u)
 
     -- there is room for the second index in its place too, so that one written there is refused for its bytes
-    pub two_other : (long : ℕ) → at + length (index_text (groups_of i Whole)) ≤ long → at + length (arrow_text b) ≤ long
+    pub two_other : (long : ℕ) → at + length (index_text (groups_of i part)) ≤ long → at + length (arrow_text b) ≤ long
     two_other long u =
         let s = length-append (arrow_text a) (arrow_text b) in
-        let r = rw (two_text i a b e) at u in
+        let r = rw (is, two_text i a b e) at u in
         omega arith
 
     module _ (j : ℕ) (l m : List ℕ) where
-      pub two_second : at + length (index_text (groups_of i Whole)) ≤ length l → Wrote l at (arrow_text a) j m → j + length (arrow_text b) ≤ length m
-      two_second u w = room_second (arrow_text a) (arrow_text b) l at j m (rw (two_text i a b e) at u) w
+      pub two_second : at + length (index_text (groups_of i part)) ≤ length l → Wrote l at (arrow_text a) j m → j + length (arrow_text b) ≤ length m
+      two_second u w = room_second (arrow_text a) (arrow_text b) l at j m (rw (is, two_text i a b e) at u) w
 
       -- and in the place of the first, once that is written
-      pub two_again : at + length (index_text (groups_of i Whole)) ≤ length l → Wrote l at (arrow_text a) j m → at + length (arrow_text b) ≤ length m
+      pub two_again : at + length (index_text (groups_of i part)) ≤ length l → Wrote l at (arrow_text a) j m → at + length (arrow_text b) ≤ length m
       two_again u w = omega (arith, two_second u w, past_by w)
 
-      pub wrote_two : (r : ℕ) (k : List ℕ) → Wrote l at (arrow_text a) j m → Wrote m j (arrow_text b) r k → Wrote l at (index_text (groups_of i Whole)) r k
-      wrote_two r k v w = rw (two_text i a b e) (wrote_join v w)
+      pub wrote_two : (r : ℕ) (k : List ℕ) → Wrote l at (arrow_text a) j m → Wrote m j (arrow_text b) r k → Wrote l at (index_text (groups_of i part)) r k
+      wrote_two r k v w = rw (is, two_text i a b e) (wrote_join v w)
 
-pub ruleset row_writing = (one_room, wrote_one, two_first, two_other, two_second, two_again, wrote_two)
+pub ruleset indices_writing = (output_writing, one_room, wrote_one, two_first, two_other, two_second, two_again, wrote_two)

@@ -25,4 +25,4 @@ module _ (t : List ℕ) (p : Parameter) (part : Part) (n : ℕ) (e : n ≡ lengt
   pub name-length_short : (r : ℕ) → r ≤ 46 → 2 + n + r ≤ 80
   name-length_short r h = let s = label-short t p.owner n e in omega arith
 
-pub ruleset name-lengths = (label-length_fits, name-length_fits, name-length_is, name-length_short)
+pub ruleset name_lengths = (label-length_fits, name-length_fits, name-length_is, name-length_short)

@@ -28,7 +28,7 @@ module _ (t : List ℕ) (m : Module) (n : ℕ) (e : n ≡ length (label t m)) wh
       → Wrote l at (label t m) r k
   wrote_label at r l k w = rw (label-part t m n e) at w
 
-pub ruleset label-writing = (label-place, label-room, wrote_label)
+pub ruleset label_writing = (label-place, label-room, wrote_label)
 
 -- ---- the label between quotes
 
@@ -51,7 +51,7 @@ pub wrote_quoted : (t : List ℕ) (m : Module) (at j i r : ℕ) (l k n o : List 
 unfolding quoted_text
 wrote_quoted t m at j i r l k n o u v w = wrote_join u (wrote_join v w)
 
-pub ruleset quoted-writing = (quoted-first, quoted-second, quoted-third, wrote_quoted)
+pub ruleset quoted_writing = (quoted-first, quoted-second, quoted-third, wrote_quoted)
 
 -- ---- the name
 
@@ -71,7 +71,7 @@ module _ (t : List ℕ) (p : Parameter) (part : Part) (at : ℕ) where
       → Wrote l at (name t p part) r k
   wrote_name j r l m k v w = rw (name-parts t p part) (wrote_join v w)
 
-pub ruleset name-writing = (name-first, name-second, wrote_name)
+pub ruleset name_writing = (name-first, name-second, wrote_name)
 
 -- ---- what stands before the value
 
@@ -98,4 +98,4 @@ pub same-front : (verb other : ℕ) (t : List ℕ) (p : Parameter) (part : Part)
 unfolding front
 same-front verb other t p part = refl
 
-pub ruleset front-writing = (front-first, front-second, front-third, wrote_front)
+pub ruleset front_writing = (front-first, front-second, front-third, wrote_front)

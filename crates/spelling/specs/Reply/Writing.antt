@@ -1,12 +1,12 @@
 -- How the answer to a get line is written: a rule for each call and each return.
-use Rattle.std.specs.Prelude.{◌≡◌, List, [], ◌∷◌, ◌++◌, ℕ, ◌≤◌, ℤ, pos, length}
+use Rattle.std.specs.Prelude.{List, [], ◌∷◌, ◌++◌, ℕ, ◌≤◌, ℤ, pos, length}
 use Rattle.std.specs.Int.{w64}
 use Rattle.std.proofs.Common.{SFits, to_z-of_z}
 use Rattle.text.specs.Level.Sign.{kept}
 use Rattle.text.specs.Written.{Wrote}
 use Rattle.catalogue.specs.declared.groups.Part.{Part}
-use Rattle.catalogue.specs.declared.groups.Part.TheVariants.{Whole}
 use Rattle.values.specs.declared.parameter.Parameter.{Parameter}
+use Rattle.room.specs.Label.Length.{label-long}
 use Rattle.spelling.specs.Line.{line_for}
 use Rattle.spelling.specs.Line.Writing.{other_verb_room, zero_room}
 use Rattle.spelling.specs.Reply.{get_reply}
@@ -20,20 +20,9 @@ module _ (verb : ℕ) (t : List ℕ) (p : Parameter) (part : Part) (v : ℤ) (lo
   unfolding get_reply
   get_zero_room h = zero_room 0x47 verb t p part v long h
 
-  module _ (e : part ≡ Whole) where
-    pub get_whole_room : SFits w64 v → length (get_reply t p part v) ≤ long → length (line_for verb t p Whole (kept v) ++ (0x0D ∷ [])) ≤ long
-    get_whole_room f h = rw e at (get_room f h)
-
-    pub get_whole_zero_room : length (get_reply t p part v) ≤ long → length (line_for verb t p Whole (pos 0) ++ (0x0D ∷ [])) ≤ long
-    get_whole_zero_room h = rw e at (get_zero_room h)
-
 pub wrote_get : (t : List ℕ) (p : Parameter) (part : Part) (v : ℤ) (r : ℕ) (l m : List ℕ) → SFits w64 v → Wrote l 0 (line_for 0x47 t p part (kept v) ++ (0x0D ∷ [])) r m
     → Wrote l 0 (get_reply t p part v) r m
 unfolding get_reply
 wrote_get t p part v r l m f w = rw (to_z-of_z f) at w
 
-pub wrote_get_whole : (t : List ℕ) (p : Parameter) (part : Part) (v : ℤ) (r : ℕ) (l m : List ℕ) → part ≡ Whole → SFits w64 v → Wrote l 0 (line_for 0x47 t p Whole (kept v) ++ (0x0D ∷ [])) r m
-    → Wrote l 0 (get_reply t p part v) r m
-wrote_get_whole t p part v r l m e f w = wrote_get t p part v r l m f (rw e w)
-
-pub ruleset get_writing = (get_room, get_zero_room, get_whole_room, get_whole_zero_room, wrote_get, wrote_get_whole)
+pub ruleset get_writing = (label-long, get_room, get_zero_room, wrote_get)

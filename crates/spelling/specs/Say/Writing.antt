@@ -1,6 +1,6 @@
 -- How the set line is measured and written: a rule for each return and each call.
 use Rattle.std.specs.Prelude.{◌≡◌, refl, List, [], ◌∷◌, ◌++◌, ℕ, zero, suc, ◌+◌, ◌≤◌, ℤ, pos, nat_abs}
-use Rattle.std.proofs.Common.{◌∙◌, arith, SFits}
+use Rattle.std.proofs.Common.{sym, ◌∙◌, arith, SFits}
 use Rattle.std.proofs.Math.Path.{ap}
 use Rattle.std.proofs.Math.ListN.{length, length-append}
 use Rattle.std.specs.Int.{w64}
@@ -18,7 +18,7 @@ use Rattle.spelling.specs.Line.{line_for}
 use Rattle.spelling.specs.Line.Writing.{other_verb_room, zero_room}
 use Rattle.spelling.specs.Name.{front, name}
 use Rattle.spelling.specs.Say.{output_or, say, said_part}
-use Rattle.spelling.specs.Say.Laws.{said_in}
+use Rattle.spelling.specs.Say.Laws.{said_in, said-whole, whole_in}
 use Rattle.spelling.specs.Text.{part_text, text_of}
 use Rattle.spelling.specs.Text.Parts.{whole_text_lem}
 
@@ -36,24 +36,15 @@ output_one (suc o) h = refl
 pub ruleset output_or_lem = (output_none, output_one)
 
 module _ (k : Kind) (v x : ℤ) where
-  pub said-level : k ≡ kind.Level → Whole ≡ said_part k v x
-  unfolding said_part
-  said-level e = rw e
-
-  pub said-switch : k ≡ kind.Switch → Whole ≡ said_part k v x
-  unfolding said_part
-  said-switch e = rw e
-
-  pub said-number : k ≡ kind.Number → Whole ≡ said_part k v x
-  unfolding said_part
-  said-number e = rw e
+  pub said-plain : (k ≡ kind.Word → ⊥) → Whole ≡ said_part k v x
+  said-plain h = sym (said-whole k v x h)
 
   pub said-word : (from to o : ℕ) (part : Part) → SFits w64 v → SFits w64 x → k ≡ kind.Word → from ≡ nat_abs (kept v) → to ≡ nat_abs (kept x)
       → o ≡ only_differing from to → part ≡ output_or o → part ≡ said_part k v x
   unfolding said_part
   said-word from to o part f g e a b h r = r ∙ rw (e, h, a, b, kept-size v f, kept-size x g)
 
-pub ruleset saying = (said-level, said-switch, said-number, said-word)
+pub ruleset saying = (said-plain, said-word)
 
 -- ---- how long the line is
 
@@ -84,7 +75,9 @@ module _ (t : List ℕ) (p : Parameter) (present wanted : ℤ) (f : SFits w64 pr
   unfolding say
   wrote_say r l m w = rw (← said) (rw (to_z-of_z g) at w)
 
-pub ruleset say-writing = (said-one, say-room, say-zero_room, wrote_say)
+pub ruleset say_lengths = (line_length_is)
+
+pub ruleset say_writing = (said-one, say-room, say-zero_room, wrote_say)
 
 -- ---- a whole value's line
 
@@ -106,4 +99,6 @@ module _ (t : List ℕ) (p : Parameter) (wanted : ℤ) (g : SFits w64 wanted) wh
       → Wrote l 0 (line_for 0x53 t p Whole wanted ++ (0x0D ∷ [])) r m
   wrote_whole_line r l m w = rw (to_z-of_z g) at w
 
-pub ruleset whole-writing = (whole_room, whole-zero_room, wrote_whole_line)
+pub ruleset whole_lengths = (whole-length_is)
+
+pub ruleset whole_writing = (whole_in, whole_room, whole-zero_room, wrote_whole_line)

@@ -41,7 +41,7 @@ pub word-text_is : (k : Kind) (v : ℤ) → k ≡ kind.Word → 8 ≡ length (te
 unfolding text_of
 word-text_is k v e = rw e (sym (word-length (nat_abs v)))
 
-pub ruleset text-lengths = (level_text-is, level_text-short, number-text_is, number-text_short, switch_text-is, word-text_is)
+pub ruleset text_lengths = (level_text-is, level_text-short, number-text_is, number-text_short, switch_text-is, word-text_is)
 
 -- no value of a kind has a shorter text than 0
 pub zero_shortest : (k : Kind) (v : ℤ) → length (text_of k (pos 0)) ≤ length (text_of k v)

@@ -61,7 +61,9 @@ pub wrote_bit : (o at b word r : ℕ) (v : ℤ) (l m : List ℕ) → SFits w64 v
     → Wrote l at (switch_text (bit o (nat_abs v))) r m
 wrote_bit o at b word r v l m f n h w = rw (h, n, kept-size v f) at w
 
-pub ruleset bit-writing = (bit-room, wrote_bit)
+pub ruleset bit_writing = (bit-room, wrote_bit)
+
+pub ruleset part_lengths = (whole_length, output_length)
 
 module _ (part : Part) (u : PartIn part) (o : ℕ) (e : part ≡ Output o) where
   pub part-some : 1 ≤ o
@@ -70,6 +72,21 @@ module _ (part : Part) (u : PartIn part) (o : ℕ) (e : part ≡ Output o) where
   pub part-most : o ≤ 32
   part-most = u.most o e
 
-pub ruleset part-lengths = (whole_length, output_length)
+module _ (k : Kind) (part : Part) (v : ℤ) (at : ℕ) (f : SFits w64 v) where
+  pub whole_room : (long : ℕ) → part ≡ Whole → at + length (part_text k part v) ≤ long → at + length (text_of k (kept v)) ≤ long
+  unfolding part_text
+  whole_room long e h = rw (to_z-of_z f) (rw e at h)
 
-pub ruleset part-outputs = (part-some, part-most)
+  pub output_room : (o long : ℕ) → part ≡ Output o → at + length (part_text k part v) ≤ long → at + length (switch_text (bit o (nat_abs (kept v)))) ≤ long
+  unfolding part_text
+  output_room o long e h = rw (to_z-of_z f) (rw e at h)
+
+  pub wrote_whole : (r : ℕ) (l m : List ℕ) → part ≡ Whole → Wrote l at (text_of k (kept v)) r m → Wrote l at (part_text k part v) r m
+  unfolding part_text
+  wrote_whole r l m e w = rw e (rw (to_z-of_z f) at w)
+
+  pub wrote_output : (o r : ℕ) (l m : List ℕ) → part ≡ Output o → Wrote l at (switch_text (bit o (nat_abs (kept v)))) r m → Wrote l at (part_text k part v) r m
+  unfolding part_text
+  wrote_output o r l m e w = rw e (rw (to_z-of_z f) at w)
+
+pub ruleset part_writing = (part-some, part-most, whole_room, output_room, wrote_whole, wrote_output)

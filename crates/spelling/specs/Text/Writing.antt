@@ -59,4 +59,4 @@ module _ (k : Kind) (v : ℤ) (at : ℕ) (f : SFits w64 v) where
   unfolding text_of
   wrote_word size r l m e s w = rw e (rw (s, to_z-of_z f) at w)
 
-pub ruleset text-writing = (level-room, switch-room, number-room, word_room, letter_room, wrote_level, wrote_switch, wrote_number, wrote_word)
+pub ruleset text_writing = (level-room, switch-room, number-room, word_room, letter_room, wrote_level, wrote_switch, wrote_number, wrote_word)

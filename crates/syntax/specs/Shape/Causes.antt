@@ -1,7 +1,7 @@
 -- Why a line is malformed: each cause is told exactly when its condition holds and none of those before it, and at its place.
 use Rattle.std.proofs.Math.Path.{◌≡◌, refl, sym}
-use Rattle.std.proofs.Common.{◌∙◌, subst, arith}
-use Rattle.std.specs.Prelude.{Bool, ◌↔◌, List, [], ◌∷◌, ℕ, ◌+◌, ◌<◌, ◌≤◌, get_or, take}
+use Rattle.std.proofs.Common.{◌∙◌, ap, subst, arith}
+use Rattle.std.specs.Prelude.{Bool, ◌↔◌, List, [], ◌∷◌, ℕ, ◌+◌, ◌<◌, ◌≤◌, get_or, take, Result, Ok, Err}
 use Rattle.std.proofs.Math.Bool.{true, false, cond}
 use borrow.Author.Tests.{eq-eqb, eqb-false, eqb-true, le-ltb, lt-ltb, ltb-false, ltb-true, ne_eqb}
 use Rattle.std.proofs.Math.Dec.{eqb, ltb}
@@ -10,11 +10,13 @@ use Rattle.text.specs.Cut.{first_from}
 use Rattle.text.specs.Cut.From.{from_after, from_first, from_stands}
 use Rattle.room.specs.Label.{same}
 use Rattle.room.specs.Label.Match.{same_not, same_refl, same_true}
+use Rattle.syntax.specs.Cause.{malformed}
 use Rattle.syntax.specs.Shape.{line_limit, is_set, is_get, opening, closing, equals, get_shape, set_shape, quoted, shape}
 use Rattle.syntax.specs.declared.cause.Cause.{Cause}
 use Rattle.syntax.specs.declared.cause.Cause.TheVariants.{Overrun, NoVerb, NoOpeningQuote, NoClosingQuote, NoEquals}
 use Rattle.syntax.specs.declared.shape.Shape.{Shape}
-use Rattle.syntax.specs.declared.shape.Shape.TheVariants.{Malformed, Set}
+use Rattle.syntax.specs.declared.cause.Malformed.{Malformed}
+use Rattle.syntax.specs.declared.shape.Shape.TheVariants.{Set}
 
 -- ---- the conditions in words
 
@@ -104,19 +106,20 @@ module _ (line : List ℕ) where
 -- ---- what a cause that is told says
 
 module _ (line : List ℕ) (c : Cause) (n : ℕ) where
-  because : (k : Cause) (m : ℕ) → Why line k m → Malformed k m ≡ Malformed c n → Why line c n
+  because : (k : Cause) (m : ℕ) → Why line k m → ◌≡◌ {A = Result Shape Malformed} (Err (malformed k m)) (Err (malformed c n)) → Why line c n
   because k m w h =
-      let p : k ≡ c = cc in
-      let q : m ≡ n = cc in
+      let e : malformed k m ≡ malformed c n = cc in
+      let p : k ≡ c = ap (λ x. x.cause) e in
+      let q : m ≡ n = ap (λ x. x.place) e in
       subst (Why line c) q (subst (λ x. Why line x m) p w)
 
-  quoted-why : length line ≤ 64 → Verb line → (s : Shape) → (closing line < length line → Opened line → s ≡ Malformed c n → Why line c n)
-      → quoted line s ≡ Malformed c n → Why line c n
+  quoted-why : length line ≤ 64 → Verb line → (s : Result Shape Malformed) → (closing line < length line → Opened line → s ≡ Err (malformed c n) → Why line c n)
+      → quoted line s ≡ Err (malformed c n) → Why line c n
   unfolding quoted closing
   quoted-why short v s f h = go (eqb (get_or line (opening line) 0) 0x22) refl (ltb (closing line) (length line)) refl h
     where
       go : (a : Bool) → eqb (get_or line (opening line) 0) 0x22 ≡ a → (b : Bool) → ltb (closing line) (length line) ≡ b
-          → cond a (cond b s (Malformed NoClosingQuote (length line))) (Malformed NoOpeningQuote (opening line)) ≡ Malformed c n → Why line c n
+          → cond a (cond b s (Err (malformed NoClosingQuote (length line)))) (Err (malformed NoOpeningQuote (opening line))) ≡ Err (malformed c n) → Why line c n
       go true a true b h = f (ltb-true (closing line) (length line) b) (eqb-true (get_or line (opening line) 0) 0x22 a) h
       go true a false b h =
           because NoClosingQuote (length line)
@@ -124,12 +127,12 @@ module _ (line : List ℕ) (c : Cause) (n : ℕ) where
           h
       go false a b e h = because NoOpeningQuote (opening line) (short, v, eqb-false (get_or line (opening line) 0) 0x22 a, refl) h
 
-  set_why : length line ≤ 64 → take 2 line ≡ 0x53 ∷ 0x41 ∷ [] → closing line < length line → Opened line → set_shape line ≡ Malformed c n → Why line c n
+  set_why : length line ≤ 64 → take 2 line ≡ 0x53 ∷ 0x41 ∷ [] → closing line < length line → Opened line → set_shape line ≡ Err (malformed c n) → Why line c n
   unfolding set_shape equals
   set_why short v w o h = go (ltb (equals line) (length line)) refl h
     where
       go : (a : Bool) → ltb (equals line) (length line) ≡ a
-          → cond a (Set (opening line) (closing line) (equals line)) (Malformed NoEquals (length line)) ≡ Malformed c n → Why line c n
+          → cond a (Ok (Set (opening line) (closing line) (equals line))) (Err (malformed NoEquals (length line))) ≡ Err (malformed c n) → Why line c n
       go true a h = absurd (let z : ◌≡◌ {A = ℕ} 0 1 = cc in omega arith)
       go false a h =
           let u : Undivided line = record {
@@ -139,11 +142,11 @@ module _ (line : List ℕ) (c : Cause) (n : ℕ) where
           } in
           because NoEquals (length line) (short, v, o, u, refl) h
 
-  get_why : get_shape line ≡ Malformed c n → Why line c n
+  get_why : get_shape line ≡ Err (malformed c n) → Why line c n
   unfolding get_shape
   get_why h = absurd (let z : ◌≡◌ {A = ℕ} 0 1 = cc in omega arith)
 
-  told : shape line ≡ Malformed c n → Why line c n
+  told : shape line ≡ Err (malformed c n) → Why line c n
   unfolding shape line_limit is_set is_get
   told h = go (ltb 64 (length line)) refl (is_set line) refl (is_get line) refl h
     where
@@ -155,7 +158,7 @@ module _ (line : List ℕ) (c : Cause) (n : ℕ) where
           absurd (let y : ◌≡◌ {A = ℕ} 0 1 = cc in omega arith)
 
       go : (o : Bool) → ltb 64 (length line) ≡ o → (a : Bool) → is_set line ≡ a → (b : Bool) → is_get line ≡ b
-          → cond o (Malformed Overrun 64) (cond a (quoted line (set_shape line)) (cond b (quoted line (get_shape line)) (Malformed NoVerb 0))) ≡ Malformed c n
+          → cond o (Err (malformed Overrun 64)) (cond a (quoted line (set_shape line)) (cond b (quoted line (get_shape line)) (Err (malformed NoVerb 0)))) ≡ Err (malformed c n)
           → Why line c n
       go true o a p b q h = because Overrun 64 (ltb-true 64 (length line) o, refl) h
       go false o true p b q h =
@@ -168,7 +171,7 @@ module _ (line : List ℕ) (c : Cause) (n : ℕ) where
 
 -- ---- a cause whose condition holds is told
 
-back : (line : List ℕ) (c : Cause) (n : ℕ) → Why line c n → shape line ≡ Malformed c n
+back : (line : List ℕ) (c : Cause) (n : ℕ) → Why line c n → shape line ≡ Err (malformed c n)
 unfolding shape line_limit is_set is_get quoted set_shape closing equals
 back line Overrun n (l, e) = rw (lt-ltb 64 (length line) l, e)
 back line NoVerb n (short, v, e) =
@@ -188,24 +191,24 @@ back line NoEquals n (short, v, o, u, e) =
 
 module _ (line : List ℕ) (n : ℕ) where
   -- over 64 bytes: at the 65th
-  pub exactly_overrun : (shape line ≡ Malformed Overrun n) ↔ ((64 < length line) × (n ≡ 64))
+  pub exactly_overrun : (shape line ≡ Err (malformed Overrun n)) ↔ ((64 < length line) × (n ≡ 64))
   exactly_overrun = (told line Overrun n, back line Overrun n)
 
   -- no verb: at the start
-  pub exactly_no_verb : (shape line ≡ Malformed NoVerb n) ↔ ((length line ≤ 64) × (Verb line → ⊥) × (n ≡ 0))
+  pub exactly_no_verb : (shape line ≡ Err (malformed NoVerb n)) ↔ ((length line ≤ 64) × (Verb line → ⊥) × (n ≡ 0))
   exactly_no_verb = (told line NoVerb n, back line NoVerb n)
 
   -- no opening quote: where it should stand
-  pub exactly_no_opening_quote : (shape line ≡ Malformed NoOpeningQuote n) ↔ ((length line ≤ 64) × Verb line × (Opened line → ⊥) × (n ≡ opening line))
+  pub exactly_no_opening_quote : (shape line ≡ Err (malformed NoOpeningQuote n)) ↔ ((length line ≤ 64) × Verb line × (Opened line → ⊥) × (n ≡ opening line))
   exactly_no_opening_quote = (told line NoOpeningQuote n, back line NoOpeningQuote n)
 
   -- no closing quote: at the line's end
-  pub exactly_no_closing_quote : (shape line ≡ Malformed NoClosingQuote n)
+  pub exactly_no_closing_quote : (shape line ≡ Err (malformed NoClosingQuote n))
       ↔ ((length line ≤ 64) × Verb line × Opened line × NoneBehind 0x22 (opening line) line × (n ≡ length line))
   exactly_no_closing_quote = (told line NoClosingQuote n, back line NoClosingQuote n)
 
   -- a set line without `=`: at the line's end
-  pub exactly_no_equals : (shape line ≡ Malformed NoEquals n)
+  pub exactly_no_equals : (shape line ≡ Err (malformed NoEquals n))
       ↔ ((length line ≤ 64) × (take 2 line ≡ 0x53 ∷ 0x41 ∷ []) × Opened line × Undivided line × (n ≡ length line))
   exactly_no_equals = (told line NoEquals n, back line NoEquals n)
 
@@ -217,7 +220,7 @@ opening-near line = go (eqb (get_or line 2 0) 0x20)
     go true = omega arith
     go false = omega arith
 
-pub place-within : (line : List ℕ) (c : Cause) (n : ℕ) → shape line ≡ Malformed c n → n ≤ 64
+pub place-within : (line : List ℕ) (c : Cause) (n : ℕ) → shape line ≡ Err (malformed c n) → n ≤ 64
 place-within line c n h = go c (told line c n h)
   where
     go : (c : Cause) → Why line c n → n ≤ 64

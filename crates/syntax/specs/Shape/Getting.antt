@@ -2,7 +2,7 @@
 use Rattle.std.proofs.Math.Path.{◌≡◌, refl}
 use Rattle.std.proofs.Common.{◌∙◌, append_assoc, arith, length-append}
 use Rattle.std.proofs.Math.Bool.{true, false}
-use Rattle.std.specs.Prelude.{List, [], ◌∷◌, ◌++◌, ℕ, ◌+◌, ◌≤◌, eqb, get_or}
+use Rattle.std.specs.Prelude.{List, [], ◌∷◌, ◌++◌, ℕ, ◌+◌, ◌≤◌, eqb, get_or, Ok}
 use borrow.Author.Tests.{lt-ltb, le-ltb}
 use Rattle.std.proofs.Math.Dec.{ltb}
 use Rattle.std.proofs.Math.ListN.{length}
@@ -51,7 +51,7 @@ module _ (line l i : List ℕ) (h : GetLine line l i) where
   quote_stands : eqb (get_or line 2 0) 0x22 ≡ true
   quote_stands = rw h.bytes
 
-  pub get_line-shape : length line ≤ 64 → shape line ≡ Get 2 (3 + length l)
+  pub get_line-shape : length line ≤ 64 → shape line ≡ Ok (Get 2 (3 + length l))
   unfolding shape line_limit quoted get_shape
   get_line-shape s =
       let n = get_line-length in

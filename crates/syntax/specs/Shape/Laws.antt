@@ -1,5 +1,5 @@
 -- Laws of a line's shape: where the parts of a set line stand, and the shape of a line that is put together.
-use Rattle.std.specs.Prelude.{◌≡◌, Bool, cond, List, [], ◌∷◌, ◌++◌, ℕ, ◌+◌, ◌≤◌, ◌<◌, eqb, get_or}
+use Rattle.std.specs.Prelude.{◌≡◌, Bool, cond, List, [], ◌∷◌, ◌++◌, ℕ, ◌+◌, ◌≤◌, ◌<◌, eqb, get_or, Result, Ok, Err}
 use Rattle.std.proofs.Math.Path.{refl}
 use Rattle.std.proofs.Common.{◌∙◌, append_assoc, arith, length-append}
 use Rattle.std.proofs.Math.Bool.{true, false}
@@ -10,11 +10,13 @@ use Rattle.text.specs.Cut.{index_of, part}
 use Rattle.text.specs.Cut.From.{from_after, from_joined}
 use Rattle.text.specs.Cut.Part.{part-last, part-middle}
 use Rattle.room.specs.Label.Match.{same_refl}
+use Rattle.syntax.specs.Cause.{malformed}
 use Rattle.syntax.specs.Shape.{line_limit, is_set, is_get, opening, closing, equals, get_shape, set_shape, quoted, shape}
 use Rattle.syntax.specs.declared.cause.Cause.{Cause}
 use Rattle.syntax.specs.declared.cause.Cause.TheVariants.{Overrun, NoVerb, NoOpeningQuote, NoClosingQuote, NoEquals}
 use Rattle.syntax.specs.declared.shape.Shape.{Shape}
-use Rattle.syntax.specs.declared.shape.Shape.TheVariants.{Malformed, Set}
+use Rattle.syntax.specs.declared.cause.Malformed.{Malformed}
+use Rattle.syntax.specs.declared.shape.Shape.TheVariants.{Set}
 
 -- ---- what a set line's shape tells
 
@@ -26,8 +28,8 @@ pub record Ordered (line : List ℕ) (o c e : ℕ) : Type 0 where
   pub ends : e < length line
   pub short : length line ≤ 64
 
-malformed {ℓ} : {A : Type ℓ} (x : Cause) (n o c e : ℕ) → Malformed x n ≡ Set o c e → A
-malformed x n o c e h = absurd (let z : ◌≡◌ {A = ℕ} 0 1 = cc in omega arith)
+never_malformed {ℓ} : {A : Type ℓ} (x : Cause) (n o c e : ℕ) → Err (malformed x n) ≡ Ok (Set o c e) → A
+never_malformed x n o c e h = absurd (let z : ◌≡◌ {A = ℕ} 0 1 = cc in omega arith)
 
 pub after-verb : (line : List ℕ) → 2 ≤ opening line
 unfolding opening
@@ -37,11 +39,11 @@ after-verb line = go (eqb (get_or line 2 0) 0x20)
     go true = omega arith
     go false = omega arith
 
-set_told : (line : List ℕ) (o c e : ℕ) → length line ≤ 64 → set_shape line ≡ Set o c e → Ordered line o c e
+set_told : (line : List ℕ) (o c e : ℕ) → length line ≤ 64 → set_shape line ≡ Ok (Set o c e) → Ordered line o c e
 unfolding set_shape closing equals
 set_told line o c e s h = go (ltb (equals line) (length line)) refl h
   where
-    go : (b : Bool) → ltb (equals line) (length line) ≡ b → cond b (Set (opening line) (closing line) (equals line)) (Malformed NoEquals (length line)) ≡ Set o c e
+    go : (b : Bool) → ltb (equals line) (length line) ≡ b → cond b (Ok (Set (opening line) (closing line) (equals line))) (Err (malformed NoEquals (length line))) ≡ Ok (Set o c e)
         → Ordered line o c e
     go true t h =
         let p : opening line ≡ o = cc in
@@ -52,32 +54,32 @@ set_told line o c e s h = go (ltb (equals line) (length line)) refl h
         let behind : opening line + 1 ≤ closing line = from_after 0x22 (opening line + 1) line in
         let divided : closing line + 1 ≤ equals line = from_after 0x3D (closing line + 1) line in
         record { verb = omega arith; label = omega arith; indices = omega arith; ends = omega arith; short = s }
-    go false t h = malformed NoEquals (length line) o c e h
+    go false t h = never_malformed NoEquals (length line) o c e h
 
-quoted-told : (line : List ℕ) (s : Shape) (o c e : ℕ) → quoted line s ≡ Set o c e → s ≡ Set o c e
+quoted-told : (line : List ℕ) (s : Result Shape Malformed) (o c e : ℕ) → quoted line s ≡ Ok (Set o c e) → s ≡ Ok (Set o c e)
 unfolding quoted
 quoted-told line s o c e h = go (eqb (get_or line (opening line) 0) 0x22) (ltb (closing line) (length line)) h
   where
-    go : (a b : Bool) → cond a (cond b s (Malformed NoClosingQuote (length line))) (Malformed NoOpeningQuote (opening line)) ≡ Set o c e → s ≡ Set o c e
+    go : (a b : Bool) → cond a (cond b s (Err (malformed NoClosingQuote (length line)))) (Err (malformed NoOpeningQuote (opening line))) ≡ Ok (Set o c e) → s ≡ Ok (Set o c e)
     go true true h = h
-    go true false h = malformed NoClosingQuote (length line) o c e h
-    go false b h = malformed NoOpeningQuote (opening line) o c e h
+    go true false h = never_malformed NoClosingQuote (length line) o c e h
+    go false b h = never_malformed NoOpeningQuote (opening line) o c e h
 
-never_set {ℓ} : {A : Type ℓ} (line : List ℕ) (o c e : ℕ) → get_shape line ≡ Set o c e → A
+never_set {ℓ} : {A : Type ℓ} (line : List ℕ) (o c e : ℕ) → get_shape line ≡ Ok (Set o c e) → A
 unfolding get_shape
 never_set line o c e h = absurd (let z : ◌≡◌ {A = ℕ} 0 1 = cc in omega arith)
 
-pub set_ordered : (line : List ℕ) (o c e : ℕ) → shape line ≡ Set o c e → Ordered line o c e
+pub set_ordered : (line : List ℕ) (o c e : ℕ) → shape line ≡ Ok (Set o c e) → Ordered line o c e
 unfolding shape line_limit
 set_ordered line o c e h = go (ltb 64 (length line)) (is_set line) (is_get line) refl h
   where
     go : (a b d : Bool) → ltb 64 (length line) ≡ a
-        → cond a (Malformed Overrun 64) (cond b (quoted line (set_shape line)) (cond d (quoted line (get_shape line)) (Malformed NoVerb 0))) ≡ Set o c e
+        → cond a (Err (malformed Overrun 64)) (cond b (quoted line (set_shape line)) (cond d (quoted line (get_shape line)) (Err (malformed NoVerb 0)))) ≡ Ok (Set o c e)
         → Ordered line o c e
-    go true b d t h = malformed Overrun 64 o c e h
+    go true b d t h = never_malformed Overrun 64 o c e h
     go false true d t h = set_told line o c e (ltb-false 64 (length line) t) (quoted-told line (set_shape line) o c e h)
     go false false true t h = never_set line o c e (quoted-told line (get_shape line) o c e h)
-    go false false false t h = malformed NoVerb 0 o c e h
+    go false false false t h = never_malformed NoVerb 0 o c e h
 
 -- ---- a set line put together
 
@@ -129,7 +131,7 @@ module _ (line l i w : List ℕ) (h : SetLine line l i w) where
   quote_stands : eqb (get_or line 2 0) 0x22 ≡ true
   quote_stands = rw h.bytes
 
-  pub set_line_shape : length line ≤ 64 → shape line ≡ Set 2 (3 + length l) (3 + length l + 1 + length i)
+  pub set_line_shape : length line ≤ 64 → shape line ≡ Ok (Set 2 (3 + length l) (3 + length l + 1 + length i))
   unfolding shape line_limit quoted set_shape
   set_line_shape s =
       let n = set_line_length in

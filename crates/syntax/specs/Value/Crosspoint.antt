@@ -1,7 +1,7 @@
 -- What a switch's text makes of one output of a routing word: which values it may say, and the code that reads it.
 use Rattle.std.proofs.Math.Path.{◌≡◌, refl, sym, ap}
 use Rattle.std.proofs.Common.{◌∙◌, arith, to_z-of_z, SFits, to_z}
-use Rattle.std.specs.Prelude.{List, ℕ, zero, suc, ◌-◌, ◌≤◌, ◌<◌, ◌^◌, ℤ, nat_abs, ◌-ℤ◌}
+use Rattle.std.specs.Prelude.{List, ℕ, zero, suc, ◌-◌, ◌≤◌, ◌<◌, ◌^◌, ℤ, nat_abs, ◌-ℤ◌, Option, Some, None}
 use Rattle.std.proofs.Math.IntN.{pos}
 use Rattle.std.specs.Int.Signed.{mag}
 use Rattle.std.proofs.Math.Facts.{to_z_pos}
@@ -14,12 +14,10 @@ use Rattle.text.specs.declared.switch.Switch.{Switch}
 use Rattle.text.specs.declared.switch.Switch.TheVariants as switch
 use Rattle.syntax.specs.Value.{of_switch, put_output, read_output}
 use Rattle.syntax.specs.Value.Laws.{wrong_value}
-use Rattle.syntax.specs.declared.value_text.ValueText.{ValueText}
-use Rattle.syntax.specs.declared.value_text.ValueText.TheVariants.{Value, Wrong}
 
 -- the present word with the output on or off; the text is a switch's
 pub data OutputSays (o : ℕ) (present : ℤ) (s : List ℕ) : ℤ → Type 0 where
-  puts : (b : ℕ) → b < 2 → (read_switch s ≡ switch.Wrong → ⊥) → OutputSays o present s (pos (with_bit o b (nat_abs present)))
+  puts : (b : ℕ) → b < 2 → (read_switch s ≡ None → ⊥) → OutputSays o present s (pos (with_bit o b (nat_abs present)))
 
 turned : (b : ℕ) → b < 2 → (pos 1 -ℤ pos b) ≡ pos (1 - b)
 turned zero h = refl
@@ -27,30 +25,30 @@ turned (suc zero) h = refl
 turned (suc (suc b)) h = absurd (omega arith)
 
 module _ (o : ℕ) (present : ℤ) (s : List ℕ) where
-  pub output_told : (x : ℤ) → read_output o present s ≡ Value x → OutputSays o present s x
+  pub output_told : (x : ℤ) → read_output o present s ≡ Some x → OutputSays o present s x
   unfolding read_output put_output of_switch
   output_told x h = go (read_switch s) refl h
     where
-      go : (w : Switch) → read_switch s ≡ w → put_output o present (of_switch (pos (bit o (nat_abs present))) w) ≡ Value x → OutputSays o present s x
-      go switch.On e h = let q : pos (with_bit o 1 (nat_abs present)) ≡ x = cc in rw (← q) (puts 1 (omega arith) (λ f. let z : ◌≡◌ {A = ℕ} 0 1 = cc in omega arith))
-      go switch.Off e h = let q : pos (with_bit o 0 (nat_abs present)) ≡ x = cc in rw (← q) (puts 0 (omega arith) (λ f. let z : ◌≡◌ {A = ℕ} 0 1 = cc in omega arith))
-      go switch.Turn e h =
+      go : (w : Option Switch) → read_switch s ≡ w → put_output o present (of_switch (pos (bit o (nat_abs present))) w) ≡ Some x → OutputSays o present s x
+      go (Some switch.On) e h = let q : pos (with_bit o 1 (nat_abs present)) ≡ x = cc in rw (← q) (puts 1 (omega arith) (λ f. let z : ◌≡◌ {A = ℕ} 0 1 = cc in omega arith))
+      go (Some switch.Off) e h = let q : pos (with_bit o 0 (nat_abs present)) ≡ x = cc in rw (← q) (puts 0 (omega arith) (λ f. let z : ◌≡◌ {A = ℕ} 0 1 = cc in omega arith))
+      go (Some switch.Turn) e h =
           let t = turned (bit o (nat_abs present)) (output_small o (nat_abs present)) in
           let q : pos (with_bit o (nat_abs (pos 1 -ℤ pos (bit o (nat_abs present)))) (nat_abs present)) ≡ x = cc in
           let r : pos (with_bit o (1 - bit o (nat_abs present)) (nat_abs present)) ≡ x = ap (λ b. pos (with_bit o (nat_abs b) (nat_abs present))) (sym t) ∙ q in
           rw (← r) (puts (1 - bit o (nat_abs present)) (omega (arith, output_small o (nat_abs present))) (λ f. let z : ◌≡◌ {A = ℕ} 0 1 = cc in omega arith))
-      go switch.Wrong e h = wrong_value x h
+      go None e h = wrong_value x h
 
-  pub output_on : read_switch s ≡ switch.On → read_output o present s ≡ Value (pos (with_bit o 1 (nat_abs present)))
+  pub output_on : read_switch s ≡ Some switch.On → read_output o present s ≡ Some (pos (with_bit o 1 (nat_abs present)))
   unfolding read_output put_output of_switch
   output_on e = rw e
 
-  pub output_off : read_switch s ≡ switch.Off → read_output o present s ≡ Value (pos (with_bit o 0 (nat_abs present)))
+  pub output_off : read_switch s ≡ Some switch.Off → read_output o present s ≡ Some (pos (with_bit o 0 (nat_abs present)))
   unfolding read_output put_output of_switch
   output_off e = rw e
 
   -- what is said is again a word
-  pub output_within : (x : ℤ) → 1 ≤ o → nat_abs present < 2 ^ 32 → read_output o present s ≡ Value x → SFits w64 x
+  pub output_within : (x : ℤ) → 1 ≤ o → nat_abs present < 2 ^ 32 → read_output o present s ≡ Some x → SFits w64 x
   output_within x some small h = go (output_told x h)
     where
       go : {x : ℤ} → OutputSays o present s x → SFits w64 x
@@ -64,12 +62,12 @@ record Bit (b : ℤ) : Type 0 where
   small : n < 2
   is : b ≡ pos n
 
-switch-bit : (had : ℕ) → had < 2 → (w : Switch) (b : ℤ) → of_switch (pos had) w ≡ Value b → Bit b
+switch-bit : (had : ℕ) → had < 2 → (w : Option Switch) (b : ℤ) → of_switch (pos had) w ≡ Some b → Bit b
 unfolding of_switch
-switch-bit had l switch.On b h = record { n = 1; small = omega arith; is = (cc) }
-switch-bit had l switch.Off b h = record { n = 0; small = omega arith; is = (cc) }
-switch-bit had l switch.Turn b h = record { n = 1 - had; small = omega arith; is = let q : (pos 1 -ℤ pos had) ≡ b = cc in sym q ∙ turned had l }
-switch-bit had l switch.Wrong b h = wrong_value b h
+switch-bit had l (Some switch.On) b h = record { n = 1; small = omega arith; is = (cc) }
+switch-bit had l (Some switch.Off) b h = record { n = 0; small = omega arith; is = (cc) }
+switch-bit had l (Some switch.Turn) b h = record { n = 1 - had; small = omega arith; is = let q : (pos 1 -ℤ pos had) ≡ b = cc in sym q ∙ turned had l }
+switch-bit had l None b h = wrong_value b h
 
 bit-size : (b : ℤ) → Bit b → nat_abs (kept b) ≡ nat_abs b
 bit-size b h =
@@ -90,9 +88,9 @@ module _ (o word had : ℕ) (h : had ≡ bit o word) where
   pub had_near : mag (to_z w64 had) < 2 ^ 62
   had_near = rw had_plain (omega (arith, had_small))
 
-  module _ (s : List ℕ) (v : ValueText) (g : v ≡ of_switch (to_z w64 had) (read_switch s)) (b : ℤ) (k : v ≡ Value b) (size : ℕ) (m : size ≡ nat_abs (kept b)) where
+  module _ (s : List ℕ) (b : ℤ) (g : Some b ≡ of_switch (to_z w64 had) (read_switch s)) (size : ℕ) (m : size ≡ nat_abs (kept b)) where
     bit_is : Bit b
-    bit_is = switch-bit had had_small (read_switch s) b (rw had_plain at (sym g ∙ k))
+    bit_is = switch-bit had had_small (read_switch s) b (rw had_plain at (sym g))
 
     size_is : size ≡ nat_abs b
     size_is = m ∙ bit-size b bit_is
@@ -111,21 +109,21 @@ module _ (present : ℤ) (f : SFits w64 present) (word : ℕ) (e : word ≡ nat_
   pub word_small : nat_abs present < 2 ^ 32 → word < 2 ^ 32
   word_small h = rw whole h
 
-  module _ (o had : ℕ) (h : had ≡ bit o word) (s : List ℕ) (v : ValueText) (g : v ≡ of_switch (to_z w64 had) (read_switch s)) where
-    said : put_output o present v ≡ read_output o present s
+  module _ (o had : ℕ) (h : had ≡ bit o word) (s : List ℕ) where
+    said : (v : Option ℤ) → v ≡ of_switch (to_z w64 had) (read_switch s) → put_output o present v ≡ read_output o present s
     unfolding read_output
-    said = ap (put_output o present) (g ∙ rw (had_plain o word had h, h, whole))
+    said v g = ap (put_output o present) (g ∙ rw (had_plain o word had h, h, whole))
 
-    pub output_wrong : v ≡ Wrong → Wrong ≡ read_output o present s
+    pub output_wrong : None ≡ of_switch (to_z w64 had) (read_switch s) → None ≡ read_output o present s
     unfolding put_output
-    output_wrong k = sym (ap (put_output o present) k) ∙ said
+    output_wrong g = said None g
 
-    pub output_put : (b : ℤ) → v ≡ Value b → (size : ℕ) → size ≡ nat_abs (kept b) → (w : ℕ) → w ≡ with_bit o size word → nat_abs present < 2 ^ 32 → 1 ≤ o
-        → Value (to_z w64 w) ≡ read_output o present s
+    pub output_put : (b : ℤ) → Some b ≡ of_switch (to_z w64 had) (read_switch s) → (size : ℕ) → size ≡ nat_abs (kept b) → (w : ℕ) → w ≡ with_bit o size word
+        → nat_abs present < 2 ^ 32 → 1 ≤ o → Some (to_z w64 w) ≡ read_output o present s
     unfolding put_output
-    output_put b k size m w p small some =
-        let below : w < 2 ^ 32 = rw p (word-stays o size word (size_small o word had h s v g b k size m) some (word_small small)) in
-        let q : w ≡ with_bit o (nat_abs b) (nat_abs present) = rw (← size_is o word had h s v g b k size m, ← whole) p in
-        rw (to_z_pos w64 {n = w} (omega (arith, below)), q) (sym (ap (put_output o present) k) ∙ said)
+    output_put b g size m w p small some =
+        let below : w < 2 ^ 32 = rw p (word-stays o size word (size_small o word had h s b g size m) some (word_small small)) in
+        let q : w ≡ with_bit o (nat_abs b) (nat_abs present) = rw (← size_is o word had h s b g size m, ← whole) p in
+        rw (to_z_pos w64 {n = w} (omega (arith, below)), q) (said (Some b) g)
 
 pub ruleset output_rules = (had_fits, had_near, size_small, put_fits, word_small, output_wrong, output_put)

@@ -1,5 +1,5 @@
 -- Laws of level texts: no text of a level is shorter than the one that is written, and what is written is read back.
-use Rattle.std.specs.Prelude.{◌≡◌, refl, Bool, true, false, cond, List, [], ◌∷◌, ◌++◌, ℕ, zero, suc, ◌+◌, ◌-◌, ◌*◌, ◌/◌, ◌%◌, ◌≤◌, ◌<◌, ℤ, pos, negsuc, nat_abs, length}
+use Rattle.std.specs.Prelude.{◌≡◌, refl, Bool, true, false, cond, List, [], ◌∷◌, ◌++◌, ℕ, zero, suc, ◌+◌, ◌-◌, ◌*◌, ◌/◌, ◌%◌, ◌≤◌, ◌<◌, ℤ, pos, negsuc, nat_abs, length, Some}
 use Rattle.std.proofs.Common.{◌∙◌, ap, add-zero, arith, ne_eqb, length-append}
 use Rattle.std.proofs.Math.Decide.{dec_lt}
 use Rattle.text.specs.Digits.{is_digit, all_digits, digits}
@@ -7,7 +7,6 @@ use Rattle.text.specs.Digits.Laws.{one_digit, more-digits, is_digit_lem, digit_r
 use Rattle.text.specs.Digits.Value.{digits-short}
 use Rattle.text.specs.Level.{signed, level_tenth, level_point, level_more, level_whole, read_level, sign_text, tenth_text, short_tenth_text, whole_text, level_text}
 use Rattle.text.specs.Level.Told.{Told, level-said, tenth_short}
-use Rattle.text.specs.declared.level.Level.TheVariants.{Tenths}
 
 -- ---- the lengths of the parts
 
@@ -61,14 +60,14 @@ told-sign {minus} {v = v} t =
     omega arith
 
 -- a level text says a level below a hundred dB
-pub level-below : (s : List ℕ) (v : ℤ) → read_level s ≡ Tenths v → nat_abs v < 1000
+pub level-below : (s : List ℕ) (v : ℤ) → read_level s ≡ Some v → nat_abs v < 1000
 level-below s v e =
     let t = (level-said s v e).told in
     let n = told-size t in
     omega (arith, t.below_hundred, t.below_ten)
 
 -- no text of a level is shorter than the one that is written
-pub level-shortest : (s : List ℕ) (v : ℤ) → read_level s ≡ Tenths v → length (level_text v) ≤ length s
+pub level-shortest : (s : List ℕ) (v : ℤ) → read_level s ≡ Some v → length (level_text v) ≤ length s
 level-shortest s v e =
     let a = level-said s v e in
     let t = a.told in
@@ -89,13 +88,13 @@ unfolding signed negative
 signed_back (pos n) = refl
 signed_back (negsuc n) = refl
 
-tenth_back : (minus : Bool) (w d : ℕ) → d < 10 → level_point minus w (tenth_text d) ≡ Tenths (signed minus (w * 10 + d))
+tenth_back : (minus : Bool) (w d : ℕ) → d < 10 → level_point minus w (tenth_text d) ≡ Some (signed minus (w * 10 + d))
 unfolding level_point level_tenth tenth_text
 tenth_back minus w d h =
     let e : 48 + d - 48 ≡ d = omega arith in
     rw (is_digit_lem (48 + d) (omega arith) (omega arith), e)
 
-short_back : (minus : Bool) (w d : ℕ) → d < 10 → level_point minus w (short_tenth_text d) ≡ Tenths (signed minus (w * 10 + d))
+short_back : (minus : Bool) (w d : ℕ) → d < 10 → level_point minus w (short_tenth_text d) ≡ Some (signed minus (w * 10 + d))
 unfolding level_point short_tenth_text
 short_back minus w zero h = rw (add-zero (w * 10))
 short_back minus w (suc d) h = tenth_back minus w (suc d) h
@@ -147,7 +146,7 @@ unfolding whole_text sign_text negative read_level
 sign_back (pos n) t = no_sign (digits (n / 10)) t (digits-are_digits (n / 10)) (some_digits (n / 10))
 sign_back (negsuc n) t = refl
 
-pub level-back : (v : ℤ) → nat_abs v < 1000 → read_level (level_text v) ≡ Tenths v
+pub level-back : (v : ℤ) → nat_abs v < 1000 → read_level (level_text v) ≡ Some v
 unfolding level_text
 level-back v h =
     let tenth = nat_abs v % 10 in
@@ -155,4 +154,4 @@ level-back v h =
     sign_back v (short_tenth_text tenth)
     ∙ whole_back (negative v) (nat_abs v / 10) (short_tenth_text tenth) (omega arith) (short_stops tenth)
     ∙ short_back (negative v) (nat_abs v / 10) tenth (omega arith)
-    ∙ ap Tenths (ap (signed (negative v)) n ∙ signed_back v)
+    ∙ ap Some (ap (signed (negative v)) n ∙ signed_back v)

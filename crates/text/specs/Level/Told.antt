@@ -1,5 +1,5 @@
 -- What a level text says, state by state: a whole part, a tenth, and how few bytes can write them.
-use Rattle.std.specs.Prelude.{◌≡◌, Bool, eqb, ℤ}
+use Rattle.std.specs.Prelude.{◌≡◌, Bool, eqb, ℤ, Some, None}
 use Rattle.std.proofs.Math.Path.{refl}
 use Rattle.std.proofs.Common.{ap}
 use Rattle.std.proofs.Math.Bool.{true, false, cond}
@@ -11,7 +11,6 @@ use Rattle.text.specs.Digits.{is_digit, digits}
 use Rattle.text.specs.Digits.Laws.{digit_range}
 use Rattle.text.specs.Digits.Value.{digits-short}
 use Rattle.text.specs.Level.{signed, level_tenth, level_point, level_more, level_whole, read_level, tenth_text, short_tenth_text}
-use Rattle.text.specs.declared.level.Level.TheVariants.{Tenths, Wrong}
 
 -- v is told by a whole part and a tenth, which can be written in `room` bytes
 pub record Told (minus : Bool) (room : ℕ) (v : ℤ) : Type 0 where
@@ -22,7 +21,7 @@ pub record Told (minus : Bool) (room : ℕ) (v : ℤ) : Type 0 where
   pub value : v ≡ signed minus (whole * 10 + tenth)
   pub short : length (digits whole) + length (short_tenth_text tenth) ≤ room
 
-clash : (v : ℤ) → Wrong ≡ Tenths v → ⊥
+clash : (v : ℤ) → None ≡ Some v → ⊥
 clash v e = let z : ◌≡◌ {A = ℕ} 0 1 = cc in omega arith
 
 pub tenth_short : (d : ℕ) → length (short_tenth_text d) ≤ 2
@@ -45,12 +44,12 @@ unfolding tenth_text
 tenth_long d = refl
 
 module _ (minus : Bool) (v : ℤ) where
-  tenth_told : (w room : ℕ) (s : List ℕ) → w < 100 → length (digits w) ≤ room → level_tenth minus w s ≡ Tenths v → Told minus (room + 1 + length s) v
+  tenth_told : (w room : ℕ) (s : List ℕ) → w < 100 → length (digits w) ≤ room → level_tenth minus w s ≡ Some v → Told minus (room + 1 + length s) v
   unfolding level_tenth
   tenth_told w room [] h l e = absurd (clash v e)
   tenth_told w room (b ∷ []) h l e = go (is_digit b) refl e
     where
-      go : (t : Bool) → is_digit b ≡ t → cond t (Tenths (signed minus (w * 10 + (b - 48)))) Wrong ≡ Tenths v → Told minus (room + 1 + 1) v
+      go : (t : Bool) → is_digit b ≡ t → cond t (Some (signed minus (w * 10 + (b - 48)))) None ≡ Some v → Told minus (room + 1 + 1) v
       go true p e =
           let r = digit_range b p in
           let s = tenth_short (b - 48) in
@@ -58,23 +57,23 @@ module _ (minus : Bool) (v : ℤ) where
       go false p e = absurd (clash v e)
   tenth_told w room (b ∷ c ∷ s) h l e = absurd (clash v e)
 
-  point_told : (w room : ℕ) (s : List ℕ) → w < 100 → length (digits w) ≤ room → level_point minus w s ≡ Tenths v → Told minus (room + length s) v
+  point_told : (w room : ℕ) (s : List ℕ) → w < 100 → length (digits w) ≤ room → level_point minus w s ≡ Some v → Told minus (room + length s) v
   unfolding level_point short_tenth_text
   point_told w room [] h l e =
       let z : w * 10 ≡ w * 10 + 0 = omega arith in
       record { whole = w; tenth = 0; below_hundred = h; below_ten = omega arith; value = cc (ap (signed minus) z); short = omega arith }
   point_told w room (b ∷ s) h l e = go (eqb b 46) e
     where
-      go : (t : Bool) → cond t (level_tenth minus w s) Wrong ≡ Tenths v → Told minus (room + suc (length s)) v
+      go : (t : Bool) → cond t (level_tenth minus w s) None ≡ Some v → Told minus (room + suc (length s)) v
       go true e = let q : room + suc (length s) ≡ room + 1 + length s = omega arith in rw q (tenth_told w room s h l e)
       go false e = absurd (clash v e)
 
-  more-told : (w : ℕ) (s : List ℕ) → w < 10 → level_more minus w s ≡ Tenths v → Told minus (1 + length s) v
+  more-told : (w : ℕ) (s : List ℕ) → w < 10 → level_more minus w s ≡ Some v → Told minus (1 + length s) v
   unfolding level_more
   more-told w [] h e = point_told w 1 [] (omega arith) (digits-short w 1 (omega arith) (omega arith)) e
   more-told w (b ∷ s) h e = go (is_digit b) refl e
     where
-      go : (t : Bool) → is_digit b ≡ t → cond t (level_point minus (w * 10 + (b - 48)) s) (level_point minus w (b ∷ s)) ≡ Tenths v → Told minus (1 + suc (length s)) v
+      go : (t : Bool) → is_digit b ≡ t → cond t (level_point minus (w * 10 + (b - 48)) s) (level_point minus w (b ∷ s)) ≡ Some v → Told minus (1 + suc (length s)) v
       go true p e =
           let r = digit_range b p in
           let l = digits-short (w * 10 + (b - 48)) 2 (omega arith) (omega arith) in
@@ -82,12 +81,12 @@ module _ (minus : Bool) (v : ℤ) where
           rw q (point_told (w * 10 + (b - 48)) 2 s (omega arith) l e)
       go false p e = point_told w 1 (b ∷ s) (omega arith) (digits-short w 1 (omega arith) (omega arith)) e
 
-  whole-told : (s : List ℕ) → level_whole minus s ≡ Tenths v → Told minus (length s) v
+  whole-told : (s : List ℕ) → level_whole minus s ≡ Some v → Told minus (length s) v
   unfolding level_whole
   whole-told [] e = absurd (clash v e)
   whole-told (b ∷ s) e = go (is_digit b) refl e
     where
-      go : (t : Bool) → is_digit b ≡ t → cond t (level_more minus (b - 48) s) Wrong ≡ Tenths v → Told minus (suc (length s)) v
+      go : (t : Bool) → is_digit b ≡ t → cond t (level_more minus (b - 48) s) None ≡ Some v → Told minus (suc (length s)) v
       go true p e =
           let r = digit_range b p in
           let q : suc (length s) ≡ 1 + length s = omega arith in
@@ -101,11 +100,11 @@ pub record Said (s : List ℕ) (v : ℤ) : Type 0 where
   pub told : Told minus room v
   pub signed-room : cond minus 1 0 + room ≤ length s
 
-pub level-said : (s : List ℕ) (v : ℤ) → read_level s ≡ Tenths v → Said s v
+pub level-said : (s : List ℕ) (v : ℤ) → read_level s ≡ Some v → Said s v
 unfolding read_level
 level-said [] v e = absurd (clash v e)
 level-said (b ∷ s) v e = go (eqb b 45) e
   where
-    go : (t : Bool) → cond t (level_whole true s) (level_whole false (b ∷ s)) ≡ Tenths v → Said (b ∷ s) v
+    go : (t : Bool) → cond t (level_whole true s) (level_whole false (b ∷ s)) ≡ Some v → Said (b ∷ s) v
     go true e = record { minus = true; room = length s; told = whole-told true v s e; signed-room = omega arith }
     go false e = record { minus = false; room = suc (length s); told = whole-told false v (b ∷ s) e; signed-room = omega arith }

@@ -1,5 +1,5 @@
 -- A number text has digits alone.
-use Rattle.std.specs.Prelude.{◌≡◌, false, ◌&&◌, List, ◌∷◌, ℕ, ◌<◌, leb, length}
+use Rattle.std.specs.Prelude.{◌≡◌, false, ◌&&◌, List, ◌∷◌, ℕ, ◌<◌, leb, length, Some, None}
 use Rattle.std.proofs.Math.Bool.{and-false}
 use Rattle.std.proofs.lemmas.Bool.{lt-leb}
 use Rattle.text.specs.Cut.{index_of}
@@ -8,7 +8,6 @@ use Rattle.text.specs.Digits.{all_digits, is_digit}
 use Rattle.text.specs.Every.{every}
 use Rattle.text.specs.Number.{number_form, read_number}
 use Rattle.text.specs.Number.Laws.{number-told}
-use Rattle.text.specs.declared.number.Number.TheVariants.{Value, Wrong}
 
 above_nine : (b : ℕ) → 57 < b → is_digit b ≡ false
 unfolding is_digit
@@ -19,16 +18,16 @@ unfolding is_digit
 below_zero b h = rw (lt-leb 48 b h)
 
 -- no byte above `9` stands in one
-pub number-lacks : (width b : ℕ) (s : List ℕ) (n : ℕ) → 57 < b → read_number width s ≡ Value n → index_of b s ≡ length s
+pub number-lacks : (width b : ℕ) (s : List ℕ) (n : ℕ) → 57 < b → read_number width s ≡ Some n → index_of b s ≡ length s
 unfolding all_digits
 number-lacks width b s n h e = index_none is_digit b s (number-told width s n e).all (above_nine b h)
 
 -- and none below `0`
-pub number-lacks_low : (width b : ℕ) (s : List ℕ) (n : ℕ) → b < 48 → read_number width s ≡ Value n → index_of b s ≡ length s
+pub number-lacks_low : (width b : ℕ) (s : List ℕ) (n : ℕ) → b < 48 → read_number width s ≡ Some n → index_of b s ≡ length s
 unfolding all_digits
 number-lacks_low width b s n h e = index_none is_digit b s (number-told width s n e).all (below_zero b h)
 
 -- so a text that begins with such a byte is no number
-pub number-begins : (width b : ℕ) (s : List ℕ) → b < 48 → read_number width (b ∷ s) ≡ Wrong
+pub number-begins : (width b : ℕ) (s : List ℕ) → b < 48 → read_number width (b ∷ s) ≡ None
 unfolding read_number number_form all_digits every
 number-begins width b s h = rw (below_zero b h, and-false (leb 1 (length (b ∷ s)) && leb (length (b ∷ s)) width))

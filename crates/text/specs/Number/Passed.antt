@@ -1,5 +1,5 @@
 -- How a number is read: the digits passed so far, and what each way out of the loop says.
-use Rattle.std.specs.Prelude.{◌≡◌, refl, Bool, true, false, List, ◌∷◌, ℕ, ◌+◌, ◌-◌, ◌*◌, ◌^◌, ◌≤◌, ◌<◌, leb, length}
+use Rattle.std.specs.Prelude.{◌≡◌, refl, Bool, true, false, List, ◌∷◌, ℕ, ◌+◌, ◌-◌, ◌*◌, ◌^◌, ◌≤◌, ◌<◌, leb, length, Some, None}
 use Rattle.std.proofs.Common.{sym, ◌∙◌, add-one, arith, drop_of_length-le, Fits}
 use Rattle.std.proofs.Math.Bool.{and-false}
 use Rattle.std.proofs.Math.Nat.{pow-suc, pow-le-pow_right}
@@ -11,7 +11,6 @@ use Rattle.text.specs.Digits.{is_digit, all_digits, read_on, number_of}
 use Rattle.text.specs.Digits.Laws.{digit_range}
 use Rattle.text.specs.Number.{number_form, read_number}
 use Rattle.text.specs.Number.Laws.{number_form_lem, number_read}
-use Rattle.text.specs.declared.number.Number.TheVariants.{Value, Wrong}
 use Rattle.text.specs.Every.{every}
 
 -- i digits of s are passed, and say n
@@ -23,11 +22,11 @@ pub record Passed (width : ℕ) (s : List ℕ) (n i : ℕ) : Type 0 where
   pub digits-left : all_digits s ≡ all_digits (drop i s)
   pub value_left : number_of s ≡ read_on n (drop i s)
 
-pub wrong_empty : (width : ℕ) (s : List ℕ) → length s ≡ 0 → Wrong ≡ read_number width s
+pub wrong_empty : (width : ℕ) (s : List ℕ) → length s ≡ 0 → None ≡ read_number width s
 unfolding read_number number_form
 wrong_empty width s h = rw h
 
-pub wrong_long : (width : ℕ) (s : List ℕ) → (length s ≡ 0 → ⊥) → width < length s → Wrong ≡ read_number width s
+pub wrong_long : (width : ℕ) (s : List ℕ) → (length s ≡ 0 → ⊥) → width < length s → None ≡ read_number width s
 unfolding read_number number_form
 wrong_long width s o h = rw (lt-leb (length s) width h, and-false (leb 1 (length s)))
 
@@ -51,13 +50,13 @@ module _ (width : ℕ) (s : List ℕ) (n i : ℕ) (t : Bool) (p : Passed width s
         value_left = p.value_left ∙ rw (f, q);
       }
 
-  pub wrong_byte : t ≡ false → Wrong ≡ read_number width s
+  pub wrong_byte : t ≡ false → None ≡ read_number width s
   unfolding read_number all_digits every
   wrong_byte y =
       let f : drop i s ≡ get_or s i 0 ∷ drop (i + 1) s = rw (add-one, drop-cons s i 0) in
       rw (number_form_lem width s p.some p.fits, p.digits-left, f, ← e, y)
 
-pub all_passed : (width : ℕ) (s : List ℕ) (n i : ℕ) → Passed width s n i → length s ≤ i → Value n ≡ read_number width s
+pub all_passed : (width : ℕ) (s : List ℕ) (n i : ℕ) → Passed width s n i → length s ≤ i → Some n ≡ read_number width s
 unfolding all_digits every read_on
 all_passed width s n i p l =
     sym (number_read width s n

@@ -1,22 +1,20 @@
 -- Worked words, computed by the definitions themselves.
-use Rattle.std.specs.Prelude.{◌≡◌, refl, List, [], ◌∷◌, ℕ}
+use Rattle.std.specs.Prelude.{◌≡◌, refl, List, [], ◌∷◌, ℕ, Option, Some, None}
 use Rattle.text.specs.Digits.{is_digit}
 use Rattle.text.specs.Every.{every}
 use Rattle.text.specs.Hex.{is_hex_digit, hex_value, hex_digit, hex_digits, hex_on}
 use Rattle.text.specs.Switch.Examples.{Gives}
 use Rattle.text.specs.Word.{bit_at, bit, differing_to, differing, hex_text, read_hex}
-use Rattle.text.specs.declared.word.Word.{Word}
-use Rattle.text.specs.declared.word.Word.TheVariants as word
 
 -- words, and texts that are none
-abbrev words_read_cases : List (List ℕ × Word)
+abbrev words_read_cases : List (List ℕ × Option ℕ)
 words_read_cases =
-    (56 ∷ 48 ∷ 48 ∷ 48 ∷ 48 ∷ 48 ∷ 48 ∷ 49 ∷ [], word.Value 2147483649) ∷  -- `80000001`
-    (70 ∷ 70 ∷ 70 ∷ 70 ∷ 70 ∷ 70 ∷ 70 ∷ 70 ∷ [], word.Value 4294967295) ∷  -- `FFFFFFFF`
-    (102 ∷ 48 ∷ 48 ∷ 48 ∷ 48 ∷ 48 ∷ 48 ∷ 48 ∷ [], word.Wrong) ∷  -- `f0000000`
-    (70 ∷ 48 ∷ 48 ∷ 48 ∷ 48 ∷ 48 ∷ 48 ∷ [], word.Wrong) ∷  -- `F000000`
-    (70 ∷ 48 ∷ 48 ∷ 48 ∷ 48 ∷ 48 ∷ 48 ∷ 48 ∷ 48 ∷ [], word.Wrong) ∷  -- `F00000000`
-    (48 ∷ [], word.Wrong) ∷  -- `0`
+    (56 ∷ 48 ∷ 48 ∷ 48 ∷ 48 ∷ 48 ∷ 48 ∷ 49 ∷ [], Some 2147483649) ∷  -- `80000001`
+    (70 ∷ 70 ∷ 70 ∷ 70 ∷ 70 ∷ 70 ∷ 70 ∷ 70 ∷ [], Some 4294967295) ∷  -- `FFFFFFFF`
+    (102 ∷ 48 ∷ 48 ∷ 48 ∷ 48 ∷ 48 ∷ 48 ∷ 48 ∷ [], None) ∷  -- `f0000000`
+    (70 ∷ 48 ∷ 48 ∷ 48 ∷ 48 ∷ 48 ∷ 48 ∷ [], None) ∷  -- `F000000`
+    (70 ∷ 48 ∷ 48 ∷ 48 ∷ 48 ∷ 48 ∷ 48 ∷ 48 ∷ 48 ∷ [], None) ∷  -- `F00000000`
+    (48 ∷ [], None) ∷  -- `0`
     []
 
 pub words-read : Gives read_hex words_read_cases

@@ -1,5 +1,5 @@
 -- How a word's text is read: the digits passed so far, and what each way out of the loop says.
-use Rattle.std.specs.Prelude.{◌≡◌, refl, Bool, true, false, List, ◌∷◌, ℕ, ◌+◌, ◌*◌, ◌^◌, ◌≤◌, ◌<◌, length}
+use Rattle.std.specs.Prelude.{◌≡◌, refl, Bool, true, false, List, ◌∷◌, ℕ, ◌+◌, ◌*◌, ◌^◌, ◌≤◌, ◌<◌, length, Some, None}
 use Rattle.std.proofs.Common.{sym, ◌∙◌, add-one, arith, eq-eqb, ne_eqb, drop_of_length-le, Fits}
 use Rattle.std.proofs.Math.Nat.{pow-suc, pow-le-pow_right}
 use Rattle.std.proofs.Math.ListN.{get_or, drop}
@@ -10,7 +10,6 @@ use Rattle.text.specs.Hex.{is_hex_digit, hex_value, hex_on}
 use Rattle.text.specs.Hex.Laws.{value_small}
 use Rattle.text.specs.Word.{read_hex}
 use Rattle.text.specs.Word.Text.{word_read}
-use Rattle.text.specs.declared.word.Word.TheVariants.{Value, Wrong}
 
 -- i hex digits of s are passed, and say n
 pub record HexPassed (s : List ℕ) (n i : ℕ) : Type 0 where
@@ -20,7 +19,7 @@ pub record HexPassed (s : List ℕ) (n i : ℕ) : Type 0 where
   pub digits-left : every is_hex_digit s ≡ every is_hex_digit (drop i s)
   pub value_left : hex_on 0 s ≡ hex_on n (drop i s)
 
-pub not_eight : (s : List ℕ) → (length s ≡ 8 → ⊥) → Wrong ≡ read_hex s
+pub not_eight : (s : List ℕ) → (length s ≡ 8 → ⊥) → None ≡ read_hex s
 unfolding read_hex
 not_eight s h = rw (ne_eqb (length s) 8 h)
 
@@ -41,13 +40,13 @@ module _ (s : List ℕ) (n i : ℕ) (t : Bool) (p : HexPassed s n i) (l : i < le
         value_left = p.value_left ∙ rw (f, q);
       }
 
-  pub hex_wrong : t ≡ false → Wrong ≡ read_hex s
+  pub hex_wrong : t ≡ false → None ≡ read_hex s
   unfolding read_hex every
   hex_wrong y =
       let f : drop i s ≡ get_or s i 0 ∷ drop (i + 1) s = rw (add-one, drop-cons s i 0) in
       rw (eq-eqb (length s) 8 p.eight, p.digits-left, f, ← e, y)
 
-pub hex_all : (s : List ℕ) (n i : ℕ) → HexPassed s n i → length s ≤ i → Value n ≡ read_hex s
+pub hex_all : (s : List ℕ) (n i : ℕ) → HexPassed s n i → length s ≤ i → Some n ≡ read_hex s
 unfolding every hex_on
 hex_all s n i p l =
     sym (word_read s n

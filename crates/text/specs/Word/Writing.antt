@@ -29,4 +29,4 @@ word_end l at w i m c h = copy_end l at (hex_text w) i m c (omega (arith, word-l
 pub digit_room : (l : List ℕ) (at w i : ℕ) (m : List ℕ) → at + length (hex_text w) ≤ length l → Copied l at (hex_text w) i m → i < 8 → at + i < length m
 digit_room l at w i m r c h = omega (arith, word-length w, c.long)
 
-pub ruleset word-writing = (word-start, word_next, word_end, digit_room)
+pub ruleset word_writing = (word-start, word_next, word_end, digit_room)

@@ -39,14 +39,14 @@ module _ (values₀ : List ℤ) (input₀ reply₀ : List ℕ) (values : List �
 module _ (r : Room) (row : List Connection) (last : ℕ) (command : List ℕ) (vs : List ℤ) (buffer : List ℕ) (p : Played) (vs' : List ℤ) (buffer' : List ℕ)
     (h : Plays r row last command vs buffer p vs' buffer') where
   -- seven bytes tell of a command at most
-  pub told-within : length p.told ≡ 7 → p.count ≤ length p.told
+  pub told-within : p.count ≤ 7
   unfolding unplayed switched_to turned_to
-  told-within l = go h
+  told-within = go h
     where
-      go : Plays r row last command vs buffer p vs' buffer' → p.count ≤ length p.told
+      go : Plays r row last command vs buffer p vs' buffer' → p.count ≤ 7
       go (plays_nothing c e f g) = let n : p.count ≡ 0 = rw e refl in omega (arith, n)
-      go (plays_switch want i number c s e f g) = let n : p.count ≡ 1 = rw e refl in omega (arith, n, l)
-      go (plays_turn t c s e) = let n : p.count ≡ 7 = rw e refl in omega (arith, n, l)
+      go (plays_switch want i number c s e f g) = let n : p.count ≡ 1 = rw e refl in omega (arith, n)
+      go (plays_turn t c s e) = let n : p.count ≡ 7 = rw e refl in omega (arith, n)
 
   -- the reply lies within its buffer
   pub sent_within : length buffer' ≡ length buffer → p.sent ≤ length buffer'

@@ -1,6 +1,7 @@
 -- What index groups that name something tell, and each part of a parameter by its own groups.
-use Rattle.std.specs.Prelude.{◌≡◌, refl, Bool, true, false, cond, ◌&&◌, ℕ, ◌+◌, ◌≤◌, eqb, leb}
+use Rattle.std.specs.Prelude.{◌≡◌, refl, Bool, true, false, cond, ◌&&◌, ℕ, ◌+◌, ◌≤◌, eqb, leb, Option, Some, None}
 use Rattle.std.proofs.Common.{sym, ap, ◌∙◌, arith, eqb-true, leb-true, le-leb}
+use Rattle.std.proofs.lemmas.Option.{some_pair_parts}
 use Rattle.text.specs.Every.Laws.{both_left, both_right}
 use Rattle.catalogue.specs.Catalogue.{known_layout}
 use Rattle.catalogue.specs.Groups.{groups_of}
@@ -19,10 +20,7 @@ use Rattle.room.specs.declared.table.Module.{Module}
 use Rattle.values.specs.Control.{is_word, whole, crosspoint, named}
 use Rattle.values.specs.Parameters.{parameters_of, parameter_at, with_indices}
 use Rattle.values.specs.Parameters.Named.{indexed-told, indexed-back, word-routed}
-use Rattle.values.specs.declared.control.ControlFound.TheVariants.{At, Nothing}
 use Rattle.values.specs.declared.parameter.Parameter.{Parameter}
-use Rattle.values.specs.declared.parameter.ParameterFound.{ParameterFound}
-use Rattle.values.specs.declared.parameter.ParameterFound.TheVariants as parameter
 
 -- a part that a parameter has: the whole, or of a routing word one of its module's outputs
 pub data PartOf (p : Parameter) : Part → Type 0 where
@@ -32,24 +30,25 @@ pub data PartOf (p : Parameter) : Part → Type 0 where
 -- the parameter p is the module m's, stands there by its number, and the groups are those of its part
 pub record NamedBy (m : Module) (i : Groups) (p : Parameter) (part : Part) : Type 0 where
   pub owner : p.owner ≡ m
-  pub own : parameter_at (parameters_of m) p.number ≡ parameter.At p
+  pub own : parameter_at (parameters_of m) p.number ≡ Some p
   pub groups : groups_of p.row.indices part ≡ i
   pub has : PartOf p part
 
 -- ---- what groups tell
 
-nothing_named {ℓ} : {A : Type ℓ} (p : Parameter) (part : Part) → Nothing ≡ At p part → A
+nothing_named {ℓ} : {A : Type ℓ} (p : Parameter) (part : Part) → ◌≡◌ {A = Option (Parameter × Part)} None (Some (p, part)) → A
 nothing_named p part e = absurd (let z : ◌≡◌ {A = ℕ} 0 1 = cc in omega arith)
 
-whole-told : (m : Module) (i : Indices) (g : Groups) (f : ParameterFound) (p : Parameter) (part : Part) → groups_of i Whole ≡ g
-    → with_indices i (parameters_of m) ≡ f → whole f ≡ At p part → NamedBy m g p part
+whole-told : (m : Module) (i : Indices) (g : Groups) (f : Option Parameter) (p : Parameter) (part : Part) → groups_of i Whole ≡ g
+    → with_indices i (parameters_of m) ≡ f → whole f ≡ Some (p, part) → NamedBy m g p part
 unfolding whole
-whole-told m i g (parameter.At q) p part k f e =
-    let s : q ≡ p = cc in
-    let w : Whole ≡ part = cc in
-    let h = indexed-told m i p (f ∙ ap parameter.At s) in
+whole-told m i g (Some q) p part k f e =
+    let both = some_pair_parts q p Whole part e in
+    let s = both.0 in
+    let w = both.1 in
+    let h = indexed-told m i p (f ∙ ap Some s) in
     rw (← w) (record { owner = h.owner; own = h.own; groups = ap (λ j. groups_of j Whole) h.indices ∙ k; has = all })
-whole-told m i g parameter.Nothing p part k f e = nothing_named p part e
+whole-told m i g None p part k f e = nothing_named p part e
 
 is_word_lem : (k : Kind) → is_word k ≡ true → k ≡ Word
 unfolding is_word
@@ -58,17 +57,18 @@ is_word_lem Switch e = absurd (let z : ◌≡◌ {A = ℕ} 0 1 = cc in omega ari
 is_word_lem Number e = absurd (let z : ◌≡◌ {A = ℕ} 0 1 = cc in omega arith)
 is_word_lem Word e = refl
 
-crosspoint-told : (m : Module) (i o : ℕ) (f : ParameterFound) (p : Parameter) (part : Part) → with_indices (row.TwoGroups 3 i) (parameters_of m) ≡ f
-    → crosspoint m.layout.outputs o f ≡ At p part → NamedBy m (TwoGroups (Single 4) (Pair i o)) p part
+crosspoint-told : (m : Module) (i o : ℕ) (f : Option Parameter) (p : Parameter) (part : Part) → with_indices (row.TwoGroups 3 i) (parameters_of m) ≡ f
+    → crosspoint m.layout.outputs o f ≡ Some (p, part) → NamedBy m (TwoGroups (Single 4) (Pair i o)) p part
 unfolding crosspoint
-crosspoint-told m i o (parameter.At q) p part f e = go (is_word q.row.kind && (leb 1 o && leb o m.layout.outputs)) refl e
+crosspoint-told m i o (Some q) p part f e = go (is_word q.row.kind && (leb 1 o && leb o m.layout.outputs)) refl e
   where
-    go : (b : Bool) → (is_word q.row.kind && (leb 1 o && leb o m.layout.outputs)) ≡ b → cond b (At q (Output o)) Nothing ≡ At p part
+    go : (b : Bool) → (is_word q.row.kind && (leb 1 o && leb o m.layout.outputs)) ≡ b → cond {A = Option (Parameter × Part)} b (Some (q, Output o)) None ≡ Some (p, part)
         → NamedBy m (TwoGroups (Single 4) (Pair i o)) p part
     go true t e =
-        let s : q ≡ p = cc in
-        let w : Output o ≡ part = cc in
-        let h = indexed-told m (row.TwoGroups 3 i) p (f ∙ ap parameter.At s) in
+        let both = some_pair_parts q p (Output o) part e in
+        let s = both.0 in
+        let w = both.1 in
+        let h = indexed-told m (row.TwoGroups 3 i) p (f ∙ ap Some s) in
         let within = both_right (is_word q.row.kind) (leb 1 o && leb o m.layout.outputs) t in
         let some = leb-true 1 o (both_left (leb 1 o) (leb o m.layout.outputs) within) in
         let most = leb-true o m.layout.outputs (both_right (leb 1 o) (leb o m.layout.outputs) within) in
@@ -82,16 +82,16 @@ crosspoint-told m i o (parameter.At q) p part f e = go (is_word q.row.kind && (l
           has = output o kind some (omega arith);
         })
     go false t e = nothing_named p part e
-crosspoint-told m i o parameter.Nothing p part f e = nothing_named p part e
+crosspoint-told m i o None p part f e = nothing_named p part e
 
-pub named-told : (m : Module) (i : Groups) (p : Parameter) (part : Part) → named m i ≡ At p part → NamedBy m i p part
+pub named-told : (m : Module) (i : Groups) (p : Parameter) (part : Part) → named m i ≡ Some (p, part) → NamedBy m i p part
 unfolding named
 named-told m (OneGroup (Single a)) p part e = whole-told m (row.OneGroup a) (OneGroup (Single a)) _ p part (one_single a) refl e
 named-told m (OneGroup (Pair a b)) p part e = nothing_named p part e
 named-told m (TwoGroups (Single a) (Single b)) p part e = whole-told m (row.TwoGroups a b) (TwoGroups (Single a) (Single b)) _ p part (two_singles a b) refl e
 named-told m (TwoGroups (Single a) (Pair i o)) p part e = go (eqb a 4) refl e
   where
-    go : (b : Bool) → eqb a 4 ≡ b → cond b (crosspoint m.layout.outputs o (with_indices (row.TwoGroups 3 i) (parameters_of m))) Nothing ≡ At p part
+    go : (b : Bool) → eqb a 4 ≡ b → cond b (crosspoint m.layout.outputs o (with_indices (row.TwoGroups 3 i) (parameters_of m))) None ≡ Some (p, part)
         → NamedBy m (TwoGroups (Single a) (Pair i o)) p part
     go true t e = rw (eqb-true a 4 t) (crosspoint-told m i o _ p part refl e)
     go false t e = nothing_named p part e
@@ -99,19 +99,19 @@ named-told m (TwoGroups (Pair a b) g) p part e = nothing_named p part e
 
 -- ---- each part by its own groups
 
-whole_back : (m : Module) (i : Indices) (p : Parameter) → with_indices i (parameters_of m) ≡ parameter.At p → named m (groups_of i Whole) ≡ At p Whole
+whole_back : (m : Module) (i : Indices) (p : Parameter) → with_indices i (parameters_of m) ≡ Some p → named m (groups_of i Whole) ≡ Some (p, Whole)
 unfolding named whole
 whole_back m (row.OneGroup a) p e = rw (one_single a, e)
 whole_back m (row.TwoGroups a b) p e = rw (two_singles a b, e)
 
-output_back : (m : Module) (i o : ℕ) (p : Parameter) → with_indices (row.TwoGroups 3 i) (parameters_of m) ≡ parameter.At p → p.row.kind ≡ Word → 1 ≤ o → o ≤ m.layout.outputs
-    → named m (groups_of (row.TwoGroups 3 i) (Output o)) ≡ At p (Output o)
+output_back : (m : Module) (i o : ℕ) (p : Parameter) → with_indices (row.TwoGroups 3 i) (parameters_of m) ≡ Some p → p.row.kind ≡ Word → 1 ≤ o → o ≤ m.layout.outputs
+    → named m (groups_of (row.TwoGroups 3 i) (Output o)) ≡ Some (p, Output o)
 unfolding named crosspoint is_word
 output_back m i o p e k some most =
     rw (two_output 3 i o, e, k, le-leb 1 o some, le-leb o m.layout.outputs most)
 
-pub named_back : (p : Parameter) (part : Part) → known_layout p.owner.layout ≡ true → parameter_at (parameters_of p.owner) p.number ≡ parameter.At p → PartOf p part
-    → named p.owner (groups_of p.row.indices part) ≡ At p part
+pub named_back : (p : Parameter) (part : Part) → known_layout p.owner.layout ≡ true → parameter_at (parameters_of p.owner) p.number ≡ Some p → PartOf p part
+    → named p.owner (groups_of p.row.indices part) ≡ Some (p, part)
 named_back p part known own all = whole_back p.owner p.row.indices p (indexed-back p.owner p.number p own)
 named_back p part known own (output o k some most) =
     let r = word-routed p.owner p.number p known own k in

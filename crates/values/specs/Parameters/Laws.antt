@@ -1,5 +1,5 @@
 -- Laws of the parameter lists: the parameters of a module by their numbers, and lists one after the other.
-use Rattle.std.specs.Prelude.{◌≡◌, refl, List, [], ◌∷◌, ◌++◌, ℕ, zero, suc, ◌+◌, ◌<◌, length, get_or, drop}
+use Rattle.std.specs.Prelude.{◌≡◌, refl, List, [], ◌∷◌, ◌++◌, ℕ, zero, suc, ◌+◌, ◌<◌, length, get_or, drop, Some}
 use Rattle.std.proofs.Common.{ap, sym, ◌∙◌, add-zero, zero-add, le_of_suc-le-suc, not-suc-le-zero, add-one, arith, drop-cons}
 use Rattle.catalogue.specs.Catalogue.{row_of, rows_of}
 use Rattle.catalogue.specs.Catalogue.Laws.{rows_at}
@@ -7,7 +7,6 @@ use Rattle.values.specs.Parameters.{numbered, parameter_at, parameters_of}
 use Rattle.catalogue.specs.declared.row.Row.{Row}
 use Rattle.room.specs.declared.table.Module.{Module}
 use Rattle.values.specs.declared.parameter.Parameter.{Parameter}
-use Rattle.values.specs.declared.parameter.ParameterFound.TheVariants.{At}
 
 -- parameter j of a module
 abbrev pub parameter_of : Module → ℕ → Parameter
@@ -44,26 +43,26 @@ pub record OwnRow (m : Module) (j : ℕ) (p : Parameter) : Type 0 where
   pub inside : j < length (rows_of m.layout)
   pub row : p.row ≡ row_of m.layout j
 
-pub own-inside : (ps : List Parameter) (j : ℕ) (p : Parameter) → parameter_at ps j ≡ At p → j < length ps
+pub own-inside : (ps : List Parameter) (j : ℕ) (p : Parameter) → parameter_at ps j ≡ Some p → j < length ps
 unfolding parameter_at
 own-inside [] j p e = absurd (let z : ◌≡◌ {A = ℕ} 0 1 = cc in omega arith)
 own-inside (q ∷ ps) zero p e = omega arith
 own-inside (q ∷ ps) (suc j) p e = let h = own-inside ps j p e in omega arith
 
-own_at : (ps : List Parameter) (j : ℕ) (p : Parameter) → parameter_at ps j ≡ At p → get_or ps j p ≡ p
+own_at : (ps : List Parameter) (j : ℕ) (p : Parameter) → parameter_at ps j ≡ Some p → get_or ps j p ≡ p
 unfolding parameter_at
 own_at [] j p e = refl
 own_at (q ∷ ps) zero p e = cc
 own_at (q ∷ ps) (suc j) p e = own_at ps j p e
 
-pub own_row : (m : Module) (j : ℕ) (p : Parameter) → parameter_at (parameters_of m) j ≡ At p → OwnRow m j p
+pub own_row : (m : Module) (j : ℕ) (p : Parameter) → parameter_at (parameters_of m) j ≡ Some p → OwnRow m j p
 own_row m j p e =
     let i : j < length (rows_of m.layout) = omega (arith, own-inside (parameters_of m) j p e, length-parameters_of m) in
     record { inside = i; row = ap (λ q. q.row) (sym (own_at (parameters_of m) j p e) ∙ parameters_of-at m p j i) }
 
 -- ---- a parameter by its place in two lists, one after the other
 
-pub parameter_early : (ps qs : List Parameter) (d : Parameter) (k : ℕ) → k < length ps → parameter_at (ps ++ qs) k ≡ At (get_or ps k d)
+pub parameter_early : (ps qs : List Parameter) (d : Parameter) (k : ℕ) → k < length ps → parameter_at (ps ++ qs) k ≡ Some (get_or ps k d)
 unfolding parameter_at
 parameter_early [] qs d k h = absurd (not-suc-le-zero h)
 parameter_early (p ∷ ps) qs d zero h = refl

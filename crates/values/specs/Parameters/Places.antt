@@ -1,5 +1,5 @@
 -- Laws of parameters: each has its module, its number and its place.
-use Rattle.std.specs.Prelude.{◌≡◌, refl, List, [], ◌∷◌, ◌++◌, ℕ, zero, suc, ◌+◌, length}
+use Rattle.std.specs.Prelude.{◌≡◌, refl, List, [], ◌∷◌, ◌++◌, ℕ, zero, suc, ◌+◌, length, Some, None}
 use Rattle.std.proofs.Common.{ap, sym, ◌∙◌, add-zero, zero-add, arith}
 use Rattle.catalogue.specs.Catalogue.{rows_of}
 use Rattle.values.specs.Parameters.{numbered, parameters_of, parameters_in, parameters, place, parameter_at}
@@ -8,19 +8,17 @@ use Rattle.room.specs.Table.{module_at, modules}
 use Rattle.room.specs.Table.Modules.{at_first, at_others, modules-induction, no_module, the_first}
 use Rattle.catalogue.specs.declared.row.Row.{Row}
 use Rattle.room.specs.declared.table.Module.{Module}
-use Rattle.room.specs.declared.table.ModuleFound.TheVariants as table
 use Rattle.values.specs.declared.parameter.Parameter.{Parameter}
-use Rattle.values.specs.declared.parameter.ParameterFound.TheVariants.{At, Nothing}
 
-pub found-same : (p q : Parameter) → At p ≡ At q → p ≡ q
+pub found-same : (p q : Parameter) → Some p ≡ Some q → p ≡ q
 found-same p q e = cc
 
-pub never_found {ℓ} : {A : Type ℓ} (p : Parameter) → Nothing ≡ At p → A
+pub never_found {ℓ} : {A : Type ℓ} (p : Parameter) → None ≡ Some p → A
 never_found p e = absurd (let z : ◌≡◌ {A = ℕ} 0 1 = cc in omega arith)
 
 -- ---- a list of parameters
 
-pub at_left : (ps qs : List Parameter) (k : ℕ) (p : Parameter) → parameter_at ps k ≡ At p → parameter_at (ps ++ qs) k ≡ At p
+pub at_left : (ps qs : List Parameter) (k : ℕ) (p : Parameter) → parameter_at ps k ≡ Some p → parameter_at (ps ++ qs) k ≡ Some p
 unfolding parameter_at
 at_left [] qs k p e = never_found p e
 at_left (q ∷ ps) qs zero p e = e
@@ -28,10 +26,10 @@ at_left (q ∷ ps) qs (suc k) p e = at_left ps qs k p e
 
 -- parameter k of two lists is one of the first, or of the second
 pub data Side (ps qs : List Parameter) (k : ℕ) (p : Parameter) : Type 0 where
-  earlier : parameter_at ps k ≡ At p → Side ps qs k p
-  later : (j : ℕ) → k ≡ length ps + j → parameter_at qs j ≡ At p → Side ps qs k p
+  earlier : parameter_at ps k ≡ Some p → Side ps qs k p
+  later : (j : ℕ) → k ≡ length ps + j → parameter_at qs j ≡ Some p → Side ps qs k p
 
-pub at_side : (ps qs : List Parameter) (k : ℕ) (p : Parameter) → parameter_at (ps ++ qs) k ≡ At p → Side ps qs k p
+pub at_side : (ps qs : List Parameter) (k : ℕ) (p : Parameter) → parameter_at (ps ++ qs) k ≡ Some p → Side ps qs k p
 unfolding parameter_at
 at_side [] qs k p e = later k (sym (zero-add k)) e
 at_side (q ∷ ps) qs zero p e = earlier e
@@ -48,7 +46,7 @@ pub record Numbered (m : Module) (n : ℕ) (p : Parameter) : Type 0 where
   pub owner : p.owner ≡ m
   pub number : p.number ≡ n
 
-pub at-numbered : (m : Module) (n : ℕ) (rs : List Row) (j : ℕ) (p : Parameter) → parameter_at (numbered m n rs) j ≡ At p → Numbered m (n + j) p
+pub at-numbered : (m : Module) (n : ℕ) (rs : List Row) (j : ℕ) (p : Parameter) → parameter_at (numbered m n rs) j ≡ Some p → Numbered m (n + j) p
 unfolding numbered parameter_at
 at-numbered m n [] j p e = never_found p e
 at-numbered m n (r ∷ rs) zero p e =
@@ -58,7 +56,7 @@ at-numbered m n (r ∷ rs) (suc j) p e =
     let h = at-numbered m (n + 1) rs j p e in
     record { owner = h.owner; number = omega arith }
 
-pub at_own : (m : Module) (j : ℕ) (p : Parameter) → parameter_at (parameters_of m) j ≡ At p → Numbered m j p
+pub at_own : (m : Module) (j : ℕ) (p : Parameter) → parameter_at (parameters_of m) j ≡ Some p → Numbered m j p
 unfolding parameters_of
 at_own m j p e = rw (zero-add j) at (at-numbered m 0 (rows_of m.layout) j p e)
 
@@ -67,16 +65,16 @@ at_own m j p e = rw (zero-add j) at (at-numbered m 0 (rows_of m.layout) j p e)
 -- a parameter stands at its place, is one of its module's by its number, and its module is one of the list
 pub record Placed (ms : List Module) (k : ℕ) (p : Parameter) : Type 0 where
   pub stands : place p ≡ k
-  pub own : parameter_at (parameters_of p.owner) p.number ≡ At p
+  pub own : parameter_at (parameters_of p.owner) p.number ≡ Some p
   pub module_number : ℕ
-  pub among : module_at ms module_number ≡ table.At p.owner
+  pub among : module_at ms module_number ≡ Some p.owner
 
 -- a parameter of the first module, and of a later one
-placed_first : (m : Module) (ms : List Module) (k : ℕ) (p : Parameter) → parameter_at (parameters_of m) k ≡ At p → Placed (m ∷ ms) (m.first + k) p
+placed_first : (m : Module) (ms : List Module) (k : ℕ) (p : Parameter) → parameter_at (parameters_of m) k ≡ Some p → Placed (m ∷ ms) (m.first + k) p
 unfolding place
 placed_first m ms k p e =
     let h = at_own m k p e in
-    record { stands = rw (h.owner, h.number) refl; own = cc; module_number = 0; among = at_first m ms ∙ ap table.At (sym h.owner) }
+    record { stands = rw (h.owner, h.number) refl; own = cc; module_number = 0; among = at_first m ms ∙ ap Some (sym h.owner) }
 
 placed-later : (m : Module) (ms : List Module) (k : ℕ) (p : Parameter) → Placed ms k p → Placed (m ∷ ms) k p
 placed-later m ms k p h =
@@ -84,7 +82,7 @@ placed-later m ms k p h =
 
 -- each parameter of some modules, whose values begin at a number
 abbrev AllPlaced : (first : ℕ) → List Module → Type 0
-AllPlaced first ms = (k : ℕ) (p : Parameter) → parameter_at (parameters_in ms) k ≡ At p → Placed ms (first + k) p
+AllPlaced first ms = (k : ℕ) (p : Parameter) → parameter_at (parameters_in ms) k ≡ Some p → Placed ms (first + k) p
 
 placed-none : (first : ℕ) → AllPlaced first []
 unfolding parameters_in parameter_at
@@ -100,7 +98,7 @@ placed-more m ms below k p e = go (at_side (parameters_of m) (parameters_in ms) 
         let e : m.first + length (rows_of m.layout) + j ≡ m.first + k = omega (arith, length-parameters_of m) in
         placed-later m ms (m.first + k) p (rw e at (below j p h))
 
-pub at_place : (t : List ℕ) (k : ℕ) (p : Parameter) → parameter_at (parameters t) k ≡ At p → Placed (modules t) k p
+pub at_place : (t : List ℕ) (k : ℕ) (p : Parameter) → parameter_at (parameters t) k ≡ Some p → Placed (modules t) k p
 unfolding parameters
 at_place t k p e = rw (zero-add k) at (modules-induction AllPlaced placed-none placed-more t k p e)
 
@@ -108,7 +106,7 @@ at_place t k p e = rw (zero-add k) at (modules-induction AllPlaced placed-none p
 record Begins (m : Module) (first : ℕ) (ps : List Parameter) : Type 0 where
   by : ℕ
   begins : m.first ≡ first + by
-  theirs : (j : ℕ) (p : Parameter) → parameter_at (parameters_of m) j ≡ At p → parameter_at ps (by + j) ≡ At p
+  theirs : (j : ℕ) (p : Parameter) → parameter_at (parameters_of m) j ≡ Some p → parameter_at ps (by + j) ≡ Some p
 
 begins_first : (one m : Module) (ps : List Parameter) → one ≡ m → Begins m one.first (parameters_of one ++ ps)
 begins_first one m ps e =
@@ -130,7 +128,7 @@ begins_later one m ps b =
     }
 
 abbrev AllBegin : (first : ℕ) → List Module → Type 0
-AllBegin first ms = (n : ℕ) (m : Module) → module_at ms n ≡ table.At m → Begins m first (parameters_in ms)
+AllBegin first ms = (n : ℕ) (m : Module) → module_at ms n ≡ Some m → Begins m first (parameters_in ms)
 
 begin_none : (first : ℕ) → AllBegin first []
 begin_none first n m e = no_module n m e
@@ -141,8 +139,8 @@ begin_more one ms below zero m e = begins_first one m (parameters_in ms) (the_fi
 begin_more one ms below (suc n) m e = begins_later one m (parameters_in ms) (below n m (sym (at_others one ms n) ∙ e))
 
 -- the parameter j of a module of the table is the table's parameter j on from the module's first
-pub at-module : (t : List ℕ) (n : ℕ) (m : Module) (j : ℕ) (p : Parameter) → module_at (modules t) n ≡ table.At m
-    → parameter_at (parameters_of m) j ≡ At p → parameter_at (parameters t) (m.first + j) ≡ At p
+pub at-module : (t : List ℕ) (n : ℕ) (m : Module) (j : ℕ) (p : Parameter) → module_at (modules t) n ≡ Some m
+    → parameter_at (parameters_of m) j ≡ Some p → parameter_at (parameters t) (m.first + j) ≡ Some p
 unfolding parameters
 at-module t n m j p h e =
     let b = modules-induction AllBegin begin_none begin_more t n m h in

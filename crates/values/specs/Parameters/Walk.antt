@@ -1,5 +1,5 @@
 -- The walk over a table's records, in its parameters: those of the records passed, and those from here on.
-use Rattle.std.specs.Prelude.{◌≡◌, refl, true, List, [], ◌++◌, ℕ, ◌+◌, ◌-◌, ◌≤◌, ◌<◌, length, get_or}
+use Rattle.std.specs.Prelude.{◌≡◌, refl, true, List, [], ◌++◌, ℕ, ◌+◌, ◌-◌, ◌≤◌, ◌<◌, length, get_or, Some, None}
 use Rattle.std.proofs.Common.{ap, sym, ◌∙◌, arith, length-append}
 use Rattle.catalogue.specs.Catalogue.{row_of, rows_of}
 use Rattle.values.specs.Parameters.{parameter_at, parameters, parameters_in, parameters_of}
@@ -8,11 +8,11 @@ use Rattle.room.specs.Table.{sound}
 use Rattle.record.specs.Body.{body_length}
 use Rattle.record.specs.Layout.{layout_at}
 use Rattle.room.specs.Table.Walk.{Walk, modules_at, modules-end, modules-next, modules-start, walk_next, walk_start}
+use Rattle.room.specs.Table.Steps.{Step, at_module, at_next}
 use Rattle.catalogue.specs.declared.layout.Layout.{Layout}
 use Rattle.catalogue.specs.declared.row.Row.{Row}
 use Rattle.room.specs.declared.table.Module.{Module}
 use Rattle.values.specs.declared.parameter.Parameter.{Parameter}
-use Rattle.values.specs.declared.parameter.ParameterFound.TheVariants.{At, Nothing}
 
 -- the parameters from the record at a place on
 unfoldable pub parameters_at : List ℕ → (number place first : ℕ) → List Parameter
@@ -64,7 +64,16 @@ counted_next t number place first c l size rows e n =
 pub counted-all : (t : List ℕ) (number place first : ℕ) → Counted t number place first → length t ≤ place → first ≡ length (parameters t)
 counted-all t number place first c l = omega (arith, c.total, ap length (parameters-end t number place first l))
 
-pub ruleset counting = (counted_start, counted_next, counted-all)
+pub counted_begun : (t : List ℕ) (number place first : ℕ) → sound t ≡ true → number ≡ 0 → place ≡ 0 → first ≡ 0 → Counted t number place first
+counted_begun t number place first s a b c = rw (a, b, c) (counted_start t s)
+
+pub counted_step : (t : List ℕ) (number place first : ℕ) (m : Module) (next_number next_place next_first : ℕ) → Step t number place first m next_number next_place next_first
+    → Counted t number place first → Counted t next_number next_place next_first
+counted_step t number place first m next_number next_place next_first s c =
+    at_next t number place first m next_number next_place next_first s (λ a b d. Counted t a b d)
+    (counted_next t number place first c s.inside (body_length (get_or t place 0)) (length (rows_of (layout_at t place))) refl refl)
+
+pub ruleset counting = (counted_begun, counted_step, counted_start, counted_next, counted-all)
 
 -- ---- finding the one with a number
 
@@ -91,7 +100,7 @@ module _ (t : List ℕ) (k number place first : ℕ) (s : Passed t k number plac
       }
 
   pub passed_here : (r : Row) (x : Layout) → x ≡ layout_at t place → k - first < rows → r ≡ row_of x (k - first)
-      → At (record { owner = record { number = number; place = place; layout = x; first = first }; number = k - first; row = r }) ≡ parameter_at (parameters t) k
+      → Some (record { owner = record { number = number; place = place; layout = x; first = first }; number = k - first; row = r }) ≡ parameter_at (parameters t) k
   passed_here r x q h g =
       let m = module_here t number place first in
       let inside : k - first < length (rows_of (layout_at t place)) = omega (arith, n) in
@@ -101,16 +110,40 @@ module _ (t : List ℕ) (k number place first : ℕ) (s : Passed t k number plac
       (sym
       (s.rest
       ∙ rw (parameters-next t number place first s.walk l (body_length (get_or t place 0)) rows refl n)
-      (parameter_early (parameters_of m) _ (parameter_of m (k - first)) (k - first) early ∙ ap At (parameters_of-at m (parameter_of m (k - first)) (k - first) inside) ∙ rw row)))
+      (parameter_early (parameters_of m) _ (parameter_of m (k - first)) (k - first) early ∙ ap Some (parameters_of-at m (parameter_of m (k - first)) (k - first) inside) ∙ rw row)))
 
 pub number-inside : (x : Layout) (rows j : ℕ) → rows ≡ length (rows_of x) → j < rows → j < length (rows_of x)
 number-inside x rows j n h = omega arith
 
-no_more : (k : ℕ) → parameter_at [] k ≡ Nothing
+no_more : (k : ℕ) → parameter_at [] k ≡ None
 unfolding parameter_at
 no_more k = refl
 
-pub passed_all : (t : List ℕ) (k number place first : ℕ) → Passed t k number place first → length t ≤ place → Nothing ≡ parameter_at (parameters t) k
+pub passed_all : (t : List ℕ) (k number place first : ℕ) → Passed t k number place first → length t ≤ place → None ≡ parameter_at (parameters t) k
 passed_all t k number place first s l = sym (s.rest ∙ rw (parameters-end t number place first l) (no_more (k - first)))
 
-pub ruleset passing = (passed_start, passed_next, passed_here, number-inside, passed_all)
+pub passed_begun : (t : List ℕ) (k number place first : ℕ) → sound t ≡ true → number ≡ 0 → place ≡ 0 → first ≡ 0 → Passed t k number place first
+passed_begun t k number place first s a b c = rw (a, b, c) (passed_start t k s)
+
+module _ (t : List ℕ) (k number place first : ℕ) (m : Module) (next_number next_place next_first : ℕ) (s : Step t number place first m next_number next_place next_first)
+    (p : Passed t k number place first) where
+  pub passed_before : m.first ≤ k
+  passed_before = at_module t number place first m next_number next_place next_first s (λ x. x.first ≤ k) p.before
+
+  pub passed_step : (rows : ℕ) → rows ≡ length (rows_of m.layout) → rows ≤ k - m.first → Passed t k next_number next_place next_first
+  passed_step =
+      at_module t number place first m next_number next_place next_first s
+      (λ x. (rows : ℕ) → rows ≡ length (rows_of x.layout) → rows ≤ k - x.first → Passed t k next_number next_place next_first)
+      (λ rows n h.
+      at_next t number place first m next_number next_place next_first s (λ a b d. Passed t k a b d)
+      (passed_next t k number place first p s.inside (length (rows_of (layout_at t place))) refl (body_length (get_or t place 0)) refl (omega (arith, n))))
+
+  pub passed_module : (rows : ℕ) (r : Row) → rows ≡ length (rows_of m.layout) → k - m.first < rows → r ≡ row_of m.layout (k - m.first)
+      → Some (record { owner = m; number = k - m.first; row = r }) ≡ parameter_at (parameters t) k
+  passed_module =
+      at_module t number place first m next_number next_place next_first s
+      (λ x. (rows : ℕ) (r : Row) → rows ≡ length (rows_of x.layout) → k - x.first < rows → r ≡ row_of x.layout (k - x.first)
+      → Some (record { owner = x; number = k - x.first; row = r }) ≡ parameter_at (parameters t) k)
+      (λ rows r n h g. passed_here t k number place first p s.inside rows n r (layout_at t place) refl h g)
+
+pub ruleset passing = (passed_begun, passed_before, passed_step, passed_module, passed_start, passed_next, passed_here, number-inside, passed_all)

@@ -1,5 +1,5 @@
 -- Rules for the start values, one by one.
-use Rattle.std.specs.Prelude.{◌≡◌, refl, true, List, [], ◌∷◌, ◌++◌, ℕ, zero, suc, ◌+◌, ◌≤◌, ◌<◌, ℤ, pos, length, get_or, take, drop, set}
+use Rattle.std.specs.Prelude.{◌≡◌, refl, true, List, [], ◌∷◌, ◌++◌, ℕ, zero, suc, ◌+◌, ◌≤◌, ◌<◌, ℤ, pos, length, get_or, take, drop, set, Option, Some, None}
 use Rattle.std.proofs.Common.{ap, ◌∙◌, add-one, arith, length-set, drop-cons, length-take-le, take-suc, to_z-of_z, of_z, to_z}
 use Rattle.std.proofs.Math.Path.{sym}
 use Rattle.std.proofs.Math.Seq.{append_snoc, take-length}
@@ -12,32 +12,30 @@ use Rattle.catalogue.specs.Row.Laws.{start_fits}
 use Rattle.room.specs.Table.{sound}
 use Rattle.values.specs.Starts.{Started, starts, starts_of}
 use Rattle.values.specs.declared.parameter.Parameter.{Parameter}
-use Rattle.values.specs.declared.parameter.ParameterFound.{ParameterFound}
-use Rattle.values.specs.declared.parameter.ParameterFound.TheVariants.{At, Nothing}
 
 -- ---- one start value
 
-found : (ps : List Parameter) (k : ℕ) (p : Parameter) → parameter_at ps k ≡ At p → get_or (starts_of ps) k (pos 0) ≡ start p.row
+found : (ps : List Parameter) (k : ℕ) (p : Parameter) → parameter_at ps k ≡ Some p → get_or (starts_of ps) k (pos 0) ≡ start p.row
 unfolding parameter_at starts_of
 found [] k p e = absurd (let z : ◌≡◌ {A = ℕ} 0 1 = cc in omega arith)
 found (q ∷ ps) zero p e = let s : q ≡ p = cc in ap (λ (x : Parameter). start x.row) s
 found (q ∷ ps) (suc k) p e = found ps k p e
 
-none : (ps : List Parameter) (k : ℕ) → parameter_at ps k ≡ Nothing → get_or (starts_of ps) k (pos 0) ≡ pos 0
+none : (ps : List Parameter) (k : ℕ) → parameter_at ps k ≡ None → get_or (starts_of ps) k (pos 0) ≡ pos 0
 unfolding parameter_at starts_of
 none [] k e = refl
 none (q ∷ ps) zero e = absurd (let z : ◌≡◌ {A = ℕ} 0 1 = cc in omega arith)
 none (q ∷ ps) (suc k) e = none ps k e
 
-module _ (t : List ℕ) (k : ℕ) (f : ParameterFound) (s : sound t ≡ true) (e : f ≡ parameter_at (parameters t) k) where
-  pub found-fits : (p : Parameter) → f ≡ At p → RowFits p.row
+module _ (t : List ℕ) (k : ℕ) (f : Option Parameter) (s : sound t ≡ true) (e : f ≡ parameter_at (parameters t) k) where
+  pub found-fits : (p : Parameter) → f ≡ Some p → RowFits p.row
   found-fits p h = parameter_fits t s k p (sym e ∙ h)
 
-  pub start-found : (p : Parameter) (z : ℤ) → f ≡ At p → z ≡ start p.row → to_z w64 (of_z w64 z) ≡ get_or (starts t) k (pos 0)
+  pub start-found : (p : Parameter) (z : ℤ) → f ≡ Some p → z ≡ start p.row → to_z w64 (of_z w64 z) ≡ get_or (starts t) k (pos 0)
   unfolding starts
   start-found p z h g = rw g (to_z-of_z (start_fits p.row (found-fits p h)) ∙ sym (found (parameters t) k p (sym e ∙ h)))
 
-  pub start_none : f ≡ Nothing → pos 0 ≡ get_or (starts t) k (pos 0)
+  pub start_none : f ≡ None → pos 0 ≡ get_or (starts t) k (pos 0)
   unfolding starts
   start_none h = sym (none (parameters t) k (sym e ∙ h))
 

@@ -1,5 +1,5 @@
 -- A table has no more parameters than the limit: at most so many rows for each of at most so many records.
-use Rattle.std.specs.Prelude.{◌≡◌, refl, true, List, ℕ, ◌+◌, ◌^◌, ◌≤◌, ◌<◌, length, get_or}
+use Rattle.std.specs.Prelude.{◌≡◌, refl, true, List, ℕ, ◌+◌, ◌^◌, ◌≤◌, ◌<◌, length, get_or, Some}
 use Rattle.std.proofs.Common.{arith}
 use Rattle.catalogue.specs.Catalogue.{row_limit, rows_of}
 use Rattle.record.specs.Body.{body_length}
@@ -11,7 +11,6 @@ use Rattle.values.specs.Parameters.Laws.{own-inside}
 use Rattle.values.specs.Values.{value_limit}
 use Rattle.values.specs.Parameters.Walk.{Counted, counted-all, counted_next, counted_start}
 use Rattle.values.specs.declared.parameter.Parameter.{Parameter}
-use Rattle.values.specs.declared.parameter.ParameterFound.TheVariants.{At}
 
 -- the walk that counts them ends at their number, which it keeps small
 abbrev FewFrom : List ℕ → (number place first : ℕ) → Type 0
@@ -33,6 +32,6 @@ pub parameters-few : (t : List ℕ) → sound t ≡ true → length (parameters 
 parameters-few t h = let c = counted_start t h in few_from t 0 0 0 c.walk c
 
 -- and so a parameter's place is small
-pub place-few : (t : List ℕ) → sound t ≡ true → (k : ℕ) (p : Parameter) → parameter_at (parameters t) k ≡ At p → k < 2 ^ 32
+pub place-few : (t : List ℕ) → sound t ≡ true → (k : ℕ) (p : Parameter) → parameter_at (parameters t) k ≡ Some p → k < 2 ^ 32
 unfolding value_limit record_limit row_limit
 place-few t h k p e = omega (arith, own-inside (parameters t) k p e, parameters-few t h)

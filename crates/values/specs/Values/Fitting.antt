@@ -9,6 +9,8 @@ use Rattle.values.specs.Parameters.Walk.{module_here}
 use Rattle.catalogue.specs.Row.{permitted}
 use Rattle.record.specs.Body.{body_length}
 use Rattle.record.specs.Layout.{layout_at}
+use Rattle.room.specs.Table.{sound}
+use Rattle.room.specs.Table.Steps.{Step, at_module, at_next, step_first}
 use Rattle.values.specs.Room.{Room}
 use Rattle.values.specs.Room.Laws.{row_in-own}
 use Rattle.values.specs.Values.{each_permitted, values_sound}
@@ -59,5 +61,45 @@ module _ (r : Room) (vs : List ℤ) (number place first : ℕ) (s : Fitting r vs
 pub fitting_all : (r : Room) (vs : List ℤ) (number place first : ℕ) → Fitting r vs number place first → length r.table ≤ place → eqb first (length vs) ≡ values_sound r vs
 unfolding values_sound
 fitting_all r vs number place first s l = each_all (each_permitted r) (each_tests r) r.table vs number place first s l
+
+-- ---- the same by the module that the walk gives
+
+pub fit_begun : (r : Room) (vs : List ℤ) (number place first : ℕ) → sound r.table ≡ true → number ≡ 0 → place ≡ 0 → first ≡ 0 → Fitting r vs number place first
+fit_begun r vs number place first h a b c = rw (a, b, c) (each_start (each_permitted r) r.table vs h)
+
+module _ (r : Room) (vs : List ℤ) (number place first : ℕ) (m : Module) (next_number next_place next_first : ℕ) (st : Step r.table number place first m next_number next_place next_first)
+    (s : Fitting r vs number place first) where
+  pub fit_before : m.first ≤ length vs
+  fit_before = at_module r.table number place first m next_number next_place next_first st (λ x. x.first ≤ length vs) s.within
+
+  pub fit_short : (rows : ℕ) → rows ≡ length (rows_of m.layout) → length vs - m.first < rows → false ≡ values_sound r vs
+  fit_short =
+      at_module r.table number place first m next_number next_place next_first st
+      (λ x. (rows : ℕ) → rows ≡ length (rows_of x.layout) → length vs - x.first < rows → false ≡ values_sound r vs)
+      (λ rows n h. fitting_short r vs number place first s st.inside rows n h)
+
+  pub fit_wrong : (rows : ℕ) → rows ≡ length (rows_of m.layout) → rows ≤ length vs - m.first → (b : Bool)
+      → b ≡ rows_permit (rows_of m.layout) (take (m.first + rows - m.first) (drop m.first vs)) → b ≡ false → false ≡ values_sound r vs
+  fit_wrong =
+      at_module r.table number place first m next_number next_place next_first st
+      (λ x. (rows : ℕ) → rows ≡ length (rows_of x.layout) → rows ≤ length vs - x.first → (b : Bool)
+      → b ≡ rows_permit (rows_of x.layout) (take (x.first + rows - x.first) (drop x.first vs)) → b ≡ false → false ≡ values_sound r vs)
+      (λ rows n room b f h. fitting_wrong r vs number place first s st.inside rows n room b (layout_at r.table place) refl f h)
+
+  pub fit_next : (rows : ℕ) → rows ≡ length (rows_of m.layout) → rows ≤ length vs - m.first → (b : Bool)
+      → b ≡ rows_permit (rows_of m.layout) (take (m.first + rows - m.first) (drop m.first vs)) → b ≡ true → Fitting r vs next_number next_place next_first
+  fit_next =
+      at_module r.table number place first m next_number next_place next_first st
+      (λ x. (rows : ℕ) → rows ≡ length (rows_of x.layout) → rows ≤ length vs - x.first → (b : Bool)
+      → b ≡ rows_permit (rows_of x.layout) (take (x.first + rows - x.first) (drop x.first vs)) → b ≡ true → Fitting r vs next_number next_place next_first)
+      (λ rows n room b f h.
+      let c : length (rows_of (layout_at r.table place)) ≡ rows = sym n in
+      at_next r.table number place first m next_number next_place next_first st (λ a p d. Fitting r vs a p d)
+      (rw c (fitting_next r vs number place first s st.inside rows n room b (layout_at r.table place) refl f (body_length (get_or r.table place 0)) refl h)))
+
+  pub fit_ended : (rows : ℕ) → rows ≡ length (rows_of m.layout) → m.first + rows ≡ next_first
+  fit_ended rows n =
+      let e : m.first ≡ first = at_module r.table number place first m next_number next_place next_first st (λ x. x.first ≡ first) refl in
+      omega (arith, e, step_first r.table number place first m next_number next_place next_first st rows n)
 
 pub ruleset fitting = (each_start, fitting_short, fitting_wrong, fitting_next, fitting_all, part_left, not-true, not-false)

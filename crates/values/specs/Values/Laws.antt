@@ -1,5 +1,5 @@
 -- Laws of the value list.
-use Rattle.std.specs.Prelude.{◌≡◌, refl, true, List, [], ◌∷◌, ℕ, zero, suc, ◌<◌, eqb, ℤ, pos, negsuc, length, set, get_or}
+use Rattle.std.specs.Prelude.{◌≡◌, refl, true, List, [], ◌∷◌, ℕ, zero, suc, ◌<◌, eqb, ℤ, pos, negsuc, length, set, get_or, Some}
 use Rattle.std.proofs.Common.{ap, sym, ◌∙◌, true≢false, arith, eqb-true, eq-eqb, length-set}
 use Rattle.text.specs.Every.Laws.{both_left, both_right}
 use Rattle.values.specs.Parameters.{parameters, parameter_at}
@@ -10,7 +10,6 @@ use Rattle.values.specs.Values.{each_permitted, equal, values_sound}
 use Rattle.values.specs.Values.Each.{Tests}
 use Rattle.values.specs.Values.Tested.{tested_all, tested_at}
 use Rattle.values.specs.declared.parameter.Parameter.{Parameter}
-use Rattle.values.specs.declared.parameter.ParameterFound.TheVariants.{At}
 
 pub equal-refl : (v : ℤ) → equal v v ≡ true
 unfolding equal
@@ -45,7 +44,7 @@ unfolding values_sound
 values_right r vs n e = rw (eq-eqb (length vs) (length (parameters r.table)) n) e
 
 -- a value that is permitted may be put at its parameter's place
-each_set : (r : Room) (ps : List Parameter) (vs : List ℤ) (k : ℕ) (p : Parameter) (x : ℤ) → parameter_at ps k ≡ At p → permitted (row_in r p) x ≡ true
+each_set : (r : Room) (ps : List Parameter) (vs : List ℤ) (k : ℕ) (p : Parameter) (x : ℤ) → parameter_at ps k ≡ Some p → permitted (row_in r p) x ≡ true
     → each_permitted r ps vs ≡ true → each_permitted r ps (set vs k x) ≡ true
 unfolding each_permitted parameter_at
 each_set r [] vs k p x e h v = refl
@@ -56,26 +55,26 @@ each_set r (q ∷ ps) (w ∷ vs) zero p x e h v =
 each_set r (q ∷ ps) (w ∷ vs) (suc k) p x e h v =
     rw (both_left (permitted (row_in r q) w) (each_permitted r ps vs) v) (each_set r ps vs k p x e h (both_right (permitted (row_in r q) w) (each_permitted r ps vs) v))
 
-pub set_sound : (r : Room) (vs : List ℤ) (k : ℕ) (p : Parameter) (x : ℤ) → parameter_at (parameters r.table) k ≡ At p → permitted (row_in r p) x ≡ true
+pub set_sound : (r : Room) (vs : List ℤ) (k : ℕ) (p : Parameter) (x : ℤ) → parameter_at (parameters r.table) k ≡ Some p → permitted (row_in r p) x ≡ true
     → values_sound r vs ≡ true → values_sound r (set vs k x) ≡ true
 set_sound r vs k p x e h v =
     values_right r (set vs k x) (length-set vs k x ∙ values_many r vs v) (each_set r (parameters r.table) vs k p x e h (values_each r vs v))
 
 -- the value at a parameter's place is permitted in the room, and a list of such values is right
-pub value_permitted : (r : Room) (vs : List ℤ) (k : ℕ) (p : Parameter) → values_sound r vs ≡ true → parameter_at (parameters r.table) k ≡ At p
+pub value_permitted : (r : Room) (vs : List ℤ) (k : ℕ) (p : Parameter) → values_sound r vs ≡ true → parameter_at (parameters r.table) k ≡ Some p
     → permitted (row_in r p) (get_or vs k (pos 0)) ≡ true
 value_permitted r vs k p v e = tested_at (each_tests r) (parameters r.table) vs k p (omega (arith, values_many r vs v)) (values_each r vs v) e
 
 pub values_permitted : (r : Room) (vs : List ℤ) → length vs ≡ length (parameters r.table)
-    → ((k : ℕ) (p : Parameter) → parameter_at (parameters r.table) k ≡ At p → permitted (row_in r p) (get_or vs k (pos 0)) ≡ true) → values_sound r vs ≡ true
+    → ((k : ℕ) (p : Parameter) → parameter_at (parameters r.table) k ≡ Some p → permitted (row_in r p) (get_or vs k (pos 0)) ≡ true) → values_sound r vs ≡ true
 values_permitted r vs n h = values_right r vs n (tested_all (each_tests r) (parameters r.table) vs (omega arith) h)
 
 -- a parameter's place is a place of the value list
-pub at-inside : (ps : List Parameter) (k : ℕ) (p : Parameter) → parameter_at ps k ≡ At p → k < length ps
+pub at-inside : (ps : List Parameter) (k : ℕ) (p : Parameter) → parameter_at ps k ≡ Some p → k < length ps
 unfolding parameter_at
 at-inside [] k p e = never_found p e
 at-inside (q ∷ ps) zero p e = omega arith
 at-inside (q ∷ ps) (suc k) p e = let l = at-inside ps k p e in omega arith
 
-pub value_inside : (r : Room) (vs : List ℤ) (k : ℕ) (p : Parameter) → values_sound r vs ≡ true → parameter_at (parameters r.table) k ≡ At p → k < length vs
+pub value_inside : (r : Room) (vs : List ℤ) (k : ℕ) (p : Parameter) → values_sound r vs ≡ true → parameter_at (parameters r.table) k ≡ Some p → k < length vs
 value_inside r vs k p v e = omega (arith, values_many r vs v, at-inside (parameters r.table) k p e)

@@ -1,5 +1,5 @@
 -- What a test of parameters with their values shows of each, and when two such tests are one.
-use Rattle.std.specs.Prelude.{◌≡◌, refl, Bool, true, ◌&&◌, ℤ, pos, length, get_or}
+use Rattle.std.specs.Prelude.{◌≡◌, refl, Bool, true, ◌&&◌, ℤ, pos, length, get_or, Some}
 use Rattle.std.proofs.Math.Path.{ap}
 use Rattle.std.proofs.Common.{sym, ◌∙◌, le_of_suc-le-suc, not-suc-le-zero}
 use mathlib.Core.List.{List, [], ◌∷◌}
@@ -11,11 +11,10 @@ use Rattle.values.specs.Parameters.Places.{found-same, never_found}
 use Rattle.values.specs.Values.Each.{Tests}
 use Rattle.room.specs.declared.table.Module.{Module}
 use Rattle.values.specs.declared.parameter.Parameter.{Parameter}
-use Rattle.values.specs.declared.parameter.ParameterFound.TheVariants.{At}
 
 module _ {f : List Parameter → List ℤ → Bool} {test : Parameter → ℤ → Bool} (r : Tests f test) where
   -- where the whole passes, each value does
-  pub tested_at : (ps : List Parameter) (vs : List ℤ) (k : ℕ) (p : Parameter) → length ps ≤ length vs → f ps vs ≡ true → parameter_at ps k ≡ At p
+  pub tested_at : (ps : List Parameter) (vs : List ℤ) (k : ℕ) (p : Parameter) → length ps ≤ length vs → f ps vs ≡ true → parameter_at ps k ≡ Some p
       → test p (get_or vs k (pos 0)) ≡ true
   unfolding parameter_at
   tested_at [] vs k p l h e = never_found p e
@@ -26,7 +25,7 @@ module _ {f : List Parameter → List ℤ → Bool} {test : Parameter → ℤ �
 
   -- where each does, the whole passes
   pub tested_all : (ps : List Parameter) (vs : List ℤ) → length ps ≤ length vs
-      → ((k : ℕ) (p : Parameter) → parameter_at ps k ≡ At p → test p (get_or vs k (pos 0)) ≡ true) → f ps vs ≡ true
+      → ((k : ℕ) (p : Parameter) → parameter_at ps k ≡ Some p → test p (get_or vs k (pos 0)) ≡ true) → f ps vs ≡ true
   unfolding parameter_at
   tested_all [] vs l h = r.none vs
   tested_all (p ∷ ps) [] l h = absurd (not-suc-le-zero l)

@@ -1,5 +1,5 @@
 -- Laws of the target list: as long as the value list, what it is at each place, and that it is right in the room.
-use Rattle.std.specs.Prelude.{◌≡◌, refl, Bool, not, cond, ◌||◌, List, [], ◌∷◌, ℕ, zero, suc, ◌<◌, ℤ, pos, length, get_or}
+use Rattle.std.specs.Prelude.{◌≡◌, refl, Bool, not, cond, ◌||◌, List, [], ◌∷◌, ℕ, zero, suc, ◌<◌, ℤ, pos, length, get_or, Some}
 use Rattle.std.proofs.Common.{ap, arith}
 use Rattle.std.proofs.Math.Bool.{true, false}
 use Rattle.catalogue.specs.Row.{permitted}
@@ -10,7 +10,6 @@ use Rattle.values.specs.Values.{values_sound}
 use Rattle.values.specs.Values.Laws.{at-inside, value_permitted, values_many, values_permitted}
 use Rattle.values.specs.Values.Tested.{tested_at}
 use Rattle.values.specs.declared.parameter.Parameter.{Parameter}
-use Rattle.values.specs.declared.parameter.ParameterFound.TheVariants.{At}
 use Rattle.wish.specs.Target.{Wish, chosen, wanted_right, target_of, target}
 use Rattle.wish.specs.Target.Wanting.{chosen-tests, wanted_each, wanted_long}
 
@@ -35,7 +34,7 @@ target_at selection (p ∷ ps) (v ∷ vs) (w ∷ ws) (suc k) d a b h = target_at
 
 module _ (w : Wish) (a : values_sound w.room w.present ≡ true) (b : wanted_right w.room w.selection w.wanted ≡ true) where
   -- permitted: a chosen module's entry is, and so is a present value
-  permitted-at : (k : ℕ) (p : Parameter) → parameter_at (parameters w.room.table) k ≡ At p → permitted (row_in w.room p) (get_or (target w) k (pos 0)) ≡ true
+  permitted-at : (k : ℕ) (p : Parameter) → parameter_at (parameters w.room.table) k ≡ Some p → permitted (row_in w.room p) (get_or (target w) k (pos 0)) ≡ true
   unfolding target
   permitted-at k p e =
       let t = w.room.table in

@@ -11,6 +11,8 @@ use Rattle.text.specs.Every.Steps.{every-from, every-past}
 use Rattle.room.specs.Table.{modules, sound}
 use Rattle.record.specs.Body.{body_length}
 use Rattle.record.specs.Layout.{layout_at}
+use Rattle.room.specs.declared.table.Module.{Module}
+use Rattle.room.specs.Table.Steps.{Step, at_module, at_next}
 use Rattle.room.specs.Table.Walk.{Walk, place-fits, walk_counted, walk_few, walk_kind, walk_next, walk_numbered, walk_start}
 use Rattle.std.specs.Int.{w64}
 use Rattle.wish.specs.Target.{at_most_one, selection_right}
@@ -78,5 +80,37 @@ selecting_all t selection number place s l = go (eqb number (length selection)) 
         rw (e, eq-eqb (length selection) (length (modules t)) (omega (arith, many)), s.rest, every-past at_most_one selection number (omega arith))
     go false e = rw (e, ne_eqb (length selection) (length (modules t)) (λ f. eqb-false number (length selection) e (omega (arith, many))))
 
+-- ---- the same by the module that the walk gives
+
+pub selecting_begun : (t selection : List ℕ) (number place : ℕ) → sound t ≡ true → number ≡ 0 → place ≡ 0 → Selecting t selection number place
+selecting_begun t selection number place s a b = rw (a, b) (selecting_start t selection s)
+
+module _ (t selection : List ℕ) (number place first : ℕ) (m : Module) (next_number next_place next_first : ℕ)
+    (st : Step t number place first m next_number next_place next_first) (s : Selecting t selection number place) where
+  pub select_short : length selection ≤ m.number → false ≡ selection_right t selection
+  select_short =
+      at_module t number place first m next_number next_place next_first st (λ x. length selection ≤ x.number → false ≡ selection_right t selection)
+      (selecting_short t selection number place s st.inside)
+
+  pub select_wrong : m.number < length selection → 1 < get_or selection m.number 0 → false ≡ selection_right t selection
+  select_wrong =
+      at_module t number place first m next_number next_place next_first st
+      (λ x. x.number < length selection → 1 < get_or selection x.number 0 → false ≡ selection_right t selection)
+      (selecting_wrong t selection number place s st.inside)
+
+  pub select_next : m.number < length selection → get_or selection m.number 0 ≤ 1 → Selecting t selection next_number next_place
+  select_next =
+      at_module t number place first m next_number next_place next_first st
+      (λ x. x.number < length selection → get_or selection x.number 0 ≤ 1 → Selecting t selection next_number next_place)
+      (λ l b.
+      at_next t number place first m next_number next_place next_first st (λ n p f. Selecting t selection n p)
+      (selecting_next t selection number place s st.inside (body_length (get_or t place 0)) refl l b))
+
+  pub select_counted : m.number + 1 ≡ next_number
+  select_counted = at_module t number place first m next_number next_place next_first st (λ x. x.number + 1 ≡ next_number) (sym st.number-next)
+
+  pub select_fits : Fits w64 (m.number + 1)
+  select_fits = at_module t number place first m next_number next_place next_first st (λ x. Fits w64 (x.number + 1)) (selecting_number_fits t selection number place s st.inside)
+
 pub ruleset selecting =
-    (selecting_start, selecting_short, selecting_wrong, selecting_next, selecting_kind, selecting_number_fits, selecting_place_fits, selecting_all)
+    (selecting_begun, selecting_start, selecting_short, selecting_wrong, selecting_next, selecting_kind, selecting_number_fits, selecting_place_fits, selecting_all)

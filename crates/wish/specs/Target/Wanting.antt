@@ -8,6 +8,7 @@ use Rattle.catalogue.specs.Row.{permitted}
 use Rattle.room.specs.Table.{modules, sound}
 use Rattle.record.specs.Body.{body_length}
 use Rattle.record.specs.Layout.{layout_at}
+use Rattle.room.specs.Table.Steps.{Step, at_module, at_next, step_first}
 use Rattle.room.specs.Table.Walk.{walk_numbered}
 use Rattle.values.specs.Parameters.{parameters, parameters_of}
 use Rattle.values.specs.Parameters.Laws.{length-parameters_of}
@@ -120,4 +121,52 @@ pub wanting_all : (r : Room) (selection : List ℕ) (ws : List ℤ) (number plac
 unfolding wanted_right
 wanting_all r selection ws number place first s l = each_all (chosen_permitted r selection) (chosen-tests r selection) r.table ws number place first s.each l
 
-pub ruleset wanting = (wanting_start, wanting_short, wanting_byte, wanting_wrong, wanting_on, wanting_all, part_left, not-true, not-false)
+-- ---- the same by the module that the walk gives
+
+pub wanting_begun : (r : Room) (selection : List ℕ) (ws : List ℤ) (number place first : ℕ) → sound r.table ≡ true → selection_right r.table selection ≡ true → number ≡ 0 → place ≡ 0 → first ≡ 0
+    → Wanting r selection ws number place first
+wanting_begun r selection ws number place first h k a b c = rw (a, b, c) (wanting_start r selection ws h k)
+
+module _ (r : Room) (selection : List ℕ) (ws : List ℤ) (number place first : ℕ) (m : Module) (next_number next_place next_first : ℕ)
+    (st : Step r.table number place first m next_number next_place next_first) (s : Wanting r selection ws number place first) where
+  pub want_byte : m.number < length selection
+  want_byte = at_module r.table number place first m next_number next_place next_first st (λ x. x.number < length selection) (wanting_byte r selection ws number place first s st.inside)
+
+  pub want_before : m.first ≤ length ws
+  want_before = at_module r.table number place first m next_number next_place next_first st (λ x. x.first ≤ length ws) s.each.within
+
+  pub want_short : (rows : ℕ) → rows ≡ length (rows_of m.layout) → length ws - m.first < rows → false ≡ wanted_right r selection ws
+  want_short =
+      at_module r.table number place first m next_number next_place next_first st
+      (λ x. (rows : ℕ) → rows ≡ length (rows_of x.layout) → length ws - x.first < rows → false ≡ wanted_right r selection ws)
+      (λ rows n h. wanting_short r selection ws number place first s st.inside rows n h)
+
+  pub want_wrong : (rows : ℕ) → rows ≡ length (rows_of m.layout) → rows ≤ length ws - m.first → (b : Bool)
+      → b ≡ (not (eqb (get_or selection m.number 0) 1) || rows_permit (rows_of m.layout) (take (m.first + rows - m.first) (drop m.first ws))) → b ≡ false
+      → false ≡ wanted_right r selection ws
+  want_wrong =
+      at_module r.table number place first m next_number next_place next_first st
+      (λ x. (rows : ℕ) → rows ≡ length (rows_of x.layout) → rows ≤ length ws - x.first → (b : Bool)
+      → b ≡ (not (eqb (get_or selection x.number 0) 1) || rows_permit (rows_of x.layout) (take (x.first + rows - x.first) (drop x.first ws))) → b ≡ false
+      → false ≡ wanted_right r selection ws)
+      (λ rows n room b f h. wanting_wrong r selection ws number place first s st.inside rows n room b (layout_at r.table place) refl f h)
+
+  pub want_next : (rows : ℕ) → rows ≡ length (rows_of m.layout) → rows ≤ length ws - m.first → (b : Bool)
+      → b ≡ (not (eqb (get_or selection m.number 0) 1) || rows_permit (rows_of m.layout) (take (m.first + rows - m.first) (drop m.first ws))) → not b ≡ false
+      → Wanting r selection ws next_number next_place next_first
+  want_next =
+      at_module r.table number place first m next_number next_place next_first st
+      (λ x. (rows : ℕ) → rows ≡ length (rows_of x.layout) → rows ≤ length ws - x.first → (b : Bool)
+      → b ≡ (not (eqb (get_or selection x.number 0) 1) || rows_permit (rows_of x.layout) (take (x.first + rows - x.first) (drop x.first ws))) → not b ≡ false
+      → Wanting r selection ws next_number next_place next_first)
+      (λ rows n room b f h.
+      let c : length (rows_of (layout_at r.table place)) ≡ rows = sym n in
+      at_next r.table number place first m next_number next_place next_first st (λ a p d. Wanting r selection ws a p d)
+      (rw c (wanting_on r selection ws number place first rows (body_length (get_or r.table place 0)) b (layout_at r.table place) s st.inside h refl n room refl f)))
+
+  pub want_ended : (rows : ℕ) → rows ≡ length (rows_of m.layout) → m.first + rows ≡ next_first
+  want_ended rows n =
+      let e : m.first ≡ first = at_module r.table number place first m next_number next_place next_first st (λ x. x.first ≡ first) refl in
+      omega (arith, e, step_first r.table number place first m next_number next_place next_first st rows n)
+
+pub ruleset wanting = (wanting_begun, wanting_start, wanting_short, wanting_byte, wanting_wrong, wanting_on, wanting_all, part_left, not-true, not-false)

@@ -8,7 +8,7 @@ use Rattle.room.specs.Label.{same}
 use Rattle.room.specs.Label.Match.{same_not}
 use Rattle.restore.specs.Demand.{Restores}
 use Rattle.restore.proofs.Laws.Demand.Laws.{parts_by}
-use Rattle.restore.specs.declared.Restored.{Restored}
+use Rattle.restore.specs.Restored.{Restored}
 use Rattle.wish.specs.Target.{Wish}
 use Rattle.worked.specs.Restored.{Compares, compares, list_right, told}
 

@@ -10,7 +10,6 @@ egrivundo_row_spec =
     (tie.spec
     (λ c κs. search (telling, rules))  -- is_sound-requires
     (λ c. search (telling, rules))  -- returns-then-not-is_sound
-    (λ c κs. search (telling, rules))  -- all_rows-rows-requires
     (λ c κs. search (telling, rules))  -- by_row-requires
     (λ c. search (telling, rules))  -- enum_known-p
     (λ c κs. search (telling, rules))  -- row_numbers-requires

@@ -12,7 +12,6 @@ egrivundo_starts_spec =
     (λ c. search (starting, rules))  -- returns-then-not-is_sound
     (λ c κs. search (starting, rules))  -- parameter_count-count-requires
     (λ c. search (starting, rules))  -- returns-then-values-count
-    (λ c κs. search (starting, rules))  -- all_rows-rows-requires
     (λ c κs. search (starting, rules))  -- fill_starts-requires
     (λ c. search (starting, rules))  -- shape_of-values
     (λ c. search (starting, rules)))  -- returns

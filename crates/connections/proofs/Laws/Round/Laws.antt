@@ -1,11 +1,9 @@
 -- Who is next: it waits, and none that waits stands before it in the round; nobody is next only where nobody waits.
-use Rattle.std.specs.Prelude.{◌≡◌, refl, Bool, true, cond, ℕ, zero, suc, ◌+◌, ◌-◌, ◌%◌, ◌≤◌, ◌<◌}
+use Rattle.std.specs.Prelude.{◌≡◌, refl, Bool, true, cond, ℕ, zero, suc, ◌+◌, ◌-◌, ◌%◌, ◌≤◌, ◌<◌, None, Option, Some}
 use Rattle.std.proofs.Common.{sym, ◌∙◌, ap, arith}
 use Rattle.std.proofs.Math.Bool.{false}
 use Rattle.std.proofs.Math.Decide.{dec_le}
 use Rattle.connections.specs.Round.{seek, next}
-use Rattle.connections.specs.declared.round.Served.{Served}
-use Rattle.connections.specs.declared.round.Served.TheVariants.{Nobody, One}
 
 -- how many come before i in the round
 unfoldable pub ahead : (last i : ℕ) → ℕ
@@ -16,9 +14,9 @@ abbrev pub NoneBefore : (last n : ℕ) → (ℕ → Bool) → Type 0
 NoneBefore last n waits = (j : ℕ) → j < 32 → ahead last j < n → waits j ≡ false
 
 -- who is next, as the rule says it
-pub data Chosen (last : ℕ) (waits : ℕ → Bool) : Served → Type 0 where
-  nobody : NoneBefore last 32 waits → Chosen last waits Nobody
-  one : (i : ℕ) → i < 32 → waits i ≡ true → NoneBefore last (ahead last i) waits → Chosen last waits (One i)
+pub data Chosen (last : ℕ) (waits : ℕ → Bool) : Option ℕ → Type 0 where
+  nobody : NoneBefore last 32 waits → Chosen last waits None
+  one : (i : ℕ) → i < 32 → waits i ≡ true → NoneBefore last (ahead last i) waits → Chosen last waits (Some i)
 
 -- the one that comes after d others
 there : (last d : ℕ) → last < 32 → d < 32 → ((last + 1 + d) % 32 + 31 - last) % 32 ≡ d
@@ -45,7 +43,7 @@ seeks (suc left) d last waits p e h =
     go (waits ((last + 1 + d) % 32)) refl (λ n. seeks left (d + 1) last waits p (omega arith) n)
   where
     go : (b : Bool) → waits ((last + 1 + d) % 32) ≡ b → (NoneBefore last (d + 1) waits → Chosen last waits (seek left (d + 1) last waits))
-        → Chosen last waits (cond b (One ((last + 1 + d) % 32)) (seek left (d + 1) last waits))
+        → Chosen last waits (cond b (Some ((last + 1 + d) % 32)) (seek left (d + 1) last waits))
     go true t more = one ((last + 1 + d) % 32) (omega arith) t (unfold ahead in rw (there last d p (omega arith)) h)
     go false t more = more (none_more last d waits p h t)
 

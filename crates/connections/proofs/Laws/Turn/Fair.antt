@@ -1,5 +1,5 @@
 -- Everyone has a turn: who waits in each of 32 accepted turns is served by one of them.
-use Rattle.std.specs.Prelude.{◌≡◌, refl, Bool, true, List, [], ◌∷◌, map, ℕ, ◌≤◌, ◌<◌, length}
+use Rattle.std.specs.Prelude.{◌≡◌, refl, Bool, true, List, [], ◌∷◌, map, ℕ, ◌≤◌, ◌<◌, length, Some}
 use Rattle.std.proofs.Common.{◌∙◌, ap, arith}
 use Rattle.std.proofs.lemmas.List.{length-map}
 use Rattle.values.specs.Room.{Room}
@@ -8,7 +8,6 @@ use Rattle.connections.proofs.Laws.Round.Fair as round
 use Rattle.connections.specs.Turn.{Turns, Made}
 use Rattle.connections.proofs.Laws.Turn.First.{waiting, serves_next}
 use Rattle.connections.proofs.Laws.Turn.Laws.{accepted, accepts}
-use Rattle.connections.specs.declared.round.Served.TheVariants.{One}
 
 -- turns made one after the other: each is accepted, and is given the last served that the one before left. Between two turns any connection may be opened, closed or replaced:
 -- nothing ties the row of a turn to the one before
@@ -24,7 +23,7 @@ AllWait c (u ∷ us) = (waiting u.asked c ≡ true) × AllWait c us
 
 -- one of them serves it
 pub data Serves (c : ℕ) : List Made → Type 0 where
-  now : (u : Made) (us : List Made) → u.told.served ≡ One c → Serves c (u ∷ us)
+  now : (u : Made) (us : List Made) → u.told.served ≡ Some c → Serves c (u ∷ us)
   later : (u : Made) (us : List Made) → Serves c us → Serves c (u ∷ us)
 
 -- who waits in each

@@ -1,5 +1,5 @@
 -- What a turn does: whom it serves, that it is a port call, and that the others are as they were.
-use Rattle.std.specs.Prelude.{◌≡◌, refl, true, false, ◌&&◌, List, [], ◌∷◌, ℕ, zero, suc, ◌+◌, ◌≤◌, ◌<◌, eqb, leb, ltb, ℤ, length, get_or, set}
+use Rattle.std.specs.Prelude.{◌≡◌, refl, true, false, ◌&&◌, List, [], ◌∷◌, ℕ, zero, suc, ◌+◌, ◌≤◌, ◌<◌, eqb, leb, ltb, ℤ, length, get_or, set, None, Option, Some}
 use Rattle.std.proofs.Common.{sym, ◌∙◌, ap, subst, arith, eqb-true, leb-true, ltb-true, get_or-set_same, get_or-set_other}
 use Rattle.text.specs.Every.{every}
 use Rattle.text.specs.Every.Laws.{both, every-at}
@@ -25,8 +25,6 @@ use Rattle.connections.specs.Round.{waits_by}
 use Rattle.connections.proofs.Laws.Round.Laws.{Chosen, one, next-chosen}
 use Rattle.connections.specs.Turn.{Asked, row_number, claims_few, ports_number, turn_number, chosen, bytes_of, Told, idle, busy, tell, turn, answer, PutBack, put_back, Left, Turns, turns, tells}
 use Rattle.connections.specs.declared.connection.Connection.{Connection}
-use Rattle.connections.specs.declared.round.Served.{Served}
-use Rattle.connections.specs.declared.round.Served.TheVariants.{Nobody, One}
 use Rattle.connections.specs.declared.turning.Turned.{Turned}
 
 -- what a turn that is not refused was given
@@ -110,9 +108,9 @@ tell-number : (r : Room) (a : Asked) (n : ℕ) → turn_number r a ≡ n → (te
 unfolding tell idle busy
 tell-number r a zero e = go (chosen a) (chosen-first r a e)
   where
-    go : (s : Served) → Chosen a.last (waits_by (flags a.row) a.counts) s → (tell r a 0 s).number ≡ 0
-    go Nobody c = refl
-    go (One i) (one j l w h) = call_number_lem r a.values (port_at a.row i) (bytes_of a i) a.buffer ∙ served-number r a i e l
+    go : (s : Option ℕ) → Chosen a.last (waits_by (flags a.row) a.counts) s → (tell r a 0 s).number ≡ 0
+    go None c = refl
+    go (Some i) (one j l w h) = call_number_lem r a.values (port_at a.row i) (bytes_of a i) a.buffer ∙ served-number r a i e l
 tell-number r a (suc n) e = refl
 
 -- what a turn tells is the number of its own tests: the port call in it is never refused
@@ -132,23 +130,23 @@ pub accepts : {r : Room} {a : Asked} {t : Told} {row' : List Connection} → Tur
 accepts {r} {a} p e = sym (turn_number_lem r a) ∙ sym (ap (λ (x : Told). x.number) (told-by p)) ∙ e
 
 -- who is told as served
-pub data ServedAs (r : Room) (a : Asked) (t : Told) (row' : List Connection) : Served → Type 0 where
-  nobody_served : row' ≡ a.row → t ≡ idle (turn_number r a) a → ServedAs r a t row' Nobody
-  one_served : (i : ℕ) → turn_number r a ≡ 0 → chosen a ≡ One i → i < 32 → PutBack r a i t row' → ServedAs r a t row' (One i)
+pub data ServedAs (r : Room) (a : Asked) (t : Told) (row' : List Connection) : Option ℕ → Type 0 where
+  nobody_served : row' ≡ a.row → t ≡ idle (turn_number r a) a → ServedAs r a t row' None
+  one_served : (i : ℕ) → turn_number r a ≡ 0 → chosen a ≡ Some i → i < 32 → PutBack r a i t row' → ServedAs r a t row' (Some i)
 
 by_served : (r : Room) (a : Asked) (t : Told) (row' : List Connection) (n : ℕ) → turn_number r a ≡ n → t ≡ tell r a n (chosen a) → Left r a n (chosen a) t row' → ServedAs r a t row' t.served
 unfolding tell idle busy
 by_served r a t row' zero e h left = go (chosen a) refl (chosen-first r a e) h left
   where
-    go : (s : Served) → chosen a ≡ s → Chosen a.last (waits_by (flags a.row) a.counts) s → t ≡ tell r a 0 s → Left r a 0 s t row' → ServedAs r a t row' t.served
-    go Nobody q c h left =
-        let w : t.served ≡ Nobody = ap (λ (x : Told). x.served) h in
+    go : (s : Option ℕ) → chosen a ≡ s → Chosen a.last (waits_by (flags a.row) a.counts) s → t ≡ tell r a 0 s → Left r a 0 s t row' → ServedAs r a t row' t.served
+    go None q c h left =
+        let w : t.served ≡ None = ap (λ (x : Told). x.served) h in
         subst (ServedAs r a t row') (sym w) (nobody_served left (rw e h))
-    go (One i) q (one j l w c) h left =
-        let w : t.served ≡ One i = ap (λ (x : Told). x.served) h in
+    go (Some i) q (one j l w c) h left =
+        let w : t.served ≡ Some i = ap (λ (x : Told). x.served) h in
         subst (ServedAs r a t row') (sym w) (one_served i e q l left)
 by_served r a t row' (suc n) e h left =
-    let w : t.served ≡ Nobody = ap (λ (x : Told). x.served) h in
+    let w : t.served ≡ None = ap (λ (x : Told). x.served) h in
     subst (ServedAs r a t row') (sym w) (nobody_served left (rw e h))
 
 pub served-as : {r : Room} {a : Asked} {t : Told} {row' : List Connection} → Turns r a t row' → ServedAs r a t row' t.served
@@ -156,13 +154,13 @@ unfolding turn
 served-as {r} {a} {t} {row'} p = by_served r a t row' (turn_number r a) refl (told-by p) (left_by p)
 
 -- the other 31 connections are as they were, whoever is served
-pub others_kept : {r : Room} {a : Asked} {t : Told} {row' : List Connection} → Turns r a t row' → (j : ℕ) → (t.served ≡ One j → ⊥) → get_or row' j closed ≡ get_or a.row j closed
+pub others_kept : {r : Room} {a : Asked} {t : Told} {row' : List Connection} → Turns r a t row' → (j : ℕ) → (t.served ≡ Some j → ⊥) → get_or row' j closed ≡ get_or a.row j closed
 others_kept {r} {a} {t} {row'} p j h = go t.served refl (served-as p)
   where
-    go : (s : Served) → t.served ≡ s → ServedAs r a t row' s → get_or row' j closed ≡ get_or a.row j closed
-    go Nobody e (nobody_served same told) = rw same refl
-    go (One i) e (one_served k z q l (put_back c placed stays answers)) =
-        rw placed (get_or-set_other a.row i j c closed (λ w. h (e ∙ ap One (sym w))))
+    go : (s : Option ℕ) → t.served ≡ s → ServedAs r a t row' s → get_or row' j closed ≡ get_or a.row j closed
+    go None e (nobody_served same told) = rw same refl
+    go (Some i) e (one_served k z q l (put_back c placed stays answers)) =
+        rw placed (get_or-set_other a.row i j c closed (λ w. h (e ∙ ap Some (sym w))))
 
 port_put : (r : Room) (a : Asked) (row' : List Connection) (k : ℕ) → k < 32 → turn_number r a ≡ 0 → (c : Connection) → row' ≡ set a.row k c → port_at row' k ≡ c.port
 unfolding port_at
@@ -171,34 +169,34 @@ port_put r a row' k l z c placed =
     rw placed (ap (λ (x : Connection). x.port) (get_or-set_same a.row k c closed (omega arith)))
 
 -- a turn that serves connection i is a port call on its bytes, with its port as it was before and as it is afterwards
-pub turn-call : {r : Room} {a : Asked} {t : Told} {row' : List Connection} → Turns r a t row' → (i : ℕ) → t.served ≡ One i
+pub turn-call : {r : Room} {a : Asked} {t : Told} {row' : List Connection} → Turns r a t row' → (i : ℕ) → t.served ≡ Some i
     → Answers r a.values (port_at a.row i) (bytes_of a i) a.buffer (answer t (port_at row' i)) t.values t.buffer
 turn-call {r} {a} {t} {row'} p i e = go t.served e (served-as p)
   where
-    go : (s : Served) → s ≡ One i → ServedAs r a t row' s
+    go : (s : Option ℕ) → s ≡ Some i → ServedAs r a t row' s
         → Answers r a.values (port_at a.row i) (bytes_of a i) a.buffer (answer t (port_at row' i)) t.values t.buffer
-    go Nobody q (nobody_served same told) = absurd (let z : ◌≡◌ {A = ℕ} 0 1 = cc in omega arith)
-    go (One k) q (one_served j z w l (put_back c placed stays answers)) =
+    go None q (nobody_served same told) = absurd (let z : ◌≡◌ {A = ℕ} 0 1 = cc in omega arith)
+    go (Some k) q (one_served j z w l (put_back c placed stays answers)) =
         let same : k ≡ i = cc in
         rw (← same, port_put r a row' k l z c placed) answers
 
 -- with nobody waiting, or refused, it changes nothing
-pub nobody_changes : {r : Room} {a : Asked} {t : Told} {row' : List Connection} → Turns r a t row' → t.served ≡ Nobody
+pub nobody_changes : {r : Room} {a : Asked} {t : Told} {row' : List Connection} → Turns r a t row' → t.served ≡ None
     → (row' ≡ a.row) × (t ≡ idle (turn_number r a) a)
 nobody_changes {r} {a} {t} {row'} p e = go t.served e (served-as p)
   where
-    go : (s : Served) → s ≡ Nobody → ServedAs r a t row' s → (row' ≡ a.row) × (t ≡ idle (turn_number r a) a)
-    go Nobody q (nobody_served same told) = (same, told)
-    go (One k) q (one_served j z w l b) = absurd (let z : ◌≡◌ {A = ℕ} 0 1 = cc in omega arith)
+    go : (s : Option ℕ) → s ≡ None → ServedAs r a t row' s → (row' ≡ a.row) × (t ≡ idle (turn_number r a) a)
+    go None q (nobody_served same told) = (same, told)
+    go (Some k) q (one_served j z w l b) = absurd (let z : ◌≡◌ {A = ℕ} 0 1 = cc in omega arith)
 
 -- the reply lies within the reply buffer
 reply_within : {r : Room} {a : Asked} {t : Told} {row' : List Connection} → Turns r a t row' → t.sent ≤ length a.buffer
 unfolding idle answer reply_limit
 reply_within {r} {a} {t} {row'} p = go t.served (served-as p)
   where
-    go : (s : Served) → ServedAs r a t row' s → t.sent ≤ length a.buffer
-    go Nobody (nobody_served same told) = let z : t.sent ≡ 0 = ap (λ (x : Told). x.sent) told in omega (arith, z)
-    go (One i) (one_served j z q l (put_back c placed stays answers)) =
+    go : (s : Option ℕ) → ServedAs r a t row' s → t.sent ≤ length a.buffer
+    go None (nobody_served same told) = let z : t.sent ≡ 0 = ap (λ (x : Told). x.sent) told in omega (arith, z)
+    go (Some i) (one_served j z q l (put_back c placed stays answers)) =
         let k = accepted r a z in
         let b = answer-accept r a.values (port_at a.row i) (bytes_of a i) a.buffer (answer t c.port) t.values t.buffer k.table k.values k.room (k.few i l) answers in
         let n : t.sent ≡ 0 + length (step (control_space r) a.values (view (port_at a.row i)) (bytes_of a i)).reply = past_by b.reply in

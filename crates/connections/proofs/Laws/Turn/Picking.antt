@@ -1,13 +1,11 @@
 -- The connection that is taken out of the row stands in a row of 32.
-use Rattle.std.specs.Prelude.{◌≡◌, Bool, true, false, cond, ◌&&◌, List, ℕ, ◌≤◌, ◌<◌, eqb, leb, length}
+use Rattle.std.specs.Prelude.{◌≡◌, Bool, true, false, cond, ◌&&◌, List, ℕ, ◌≤◌, ◌<◌, eqb, leb, length, None, Option, Some}
 use Rattle.std.proofs.Math.Path.{refl}
 use native.Mathlib.Omega.{arith}
 use borrow.Author.Tests.{leb-true}
 use Rattle.connections.specs.Round.{waits_by, next}
 use Rattle.connections.proofs.Laws.Round.Laws.{Chosen, nobody, one, next-chosen}
 use Rattle.connections.specs.Turn.Picking.{number_of, picked}
-use Rattle.connections.specs.declared.round.Served.{Served}
-use Rattle.connections.specs.declared.round.Served.TheVariants.{Nobody, One}
 
 module _ (flags : List Bool) (counts : List ℕ) (last : ℕ) where
   -- it stands in a row of 32
@@ -15,9 +13,9 @@ module _ (flags : List Bool) (counts : List ℕ) (last : ℕ) where
   unfolding picked number_of
   picked-below = go (eqb (length counts) 32) (leb last 31) refl
     where
-      below : (s : Served) → Chosen last (waits_by flags counts) s → number_of s < 32
-      below Nobody (nobody h) = omega arith
-      below (One i) (one j l w h) = l
+      below : (s : Option ℕ) → Chosen last (waits_by flags counts) s → number_of s < 32
+      below None (nobody h) = omega arith
+      below (Some i) (one j l w h) = l
 
       go : (b c : Bool) → leb last 31 ≡ c → cond (b && c) (number_of (next last (waits_by flags counts))) 0 < 32
       go true true e = let k : last ≤ 31 = leb-true last 31 e in below (next last (waits_by flags counts)) (next-chosen last (waits_by flags counts) (omega arith))

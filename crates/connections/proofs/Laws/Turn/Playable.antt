@@ -1,5 +1,5 @@
 -- Turns can be made for any bytes: whoever keeps the promise of a turn plays them to a connection, in a row where it alone is open.
-use Rattle.std.specs.Prelude.{◌≡◌, Bool, true, false, List, [], ◌∷◌, ℕ, zero, suc, ◌≤◌, ◌<◌, ℤ, length, get_or, drop, set, replicate}
+use Rattle.std.specs.Prelude.{◌≡◌, Bool, true, false, List, [], ◌∷◌, ℕ, zero, suc, ◌≤◌, ◌<◌, ℤ, length, get_or, drop, set, replicate, None, Option, Some}
 use Rattle.std.proofs.Math.Path.{refl, sym, ap}
 use Rattle.std.proofs.Common.{◌∙◌, arith, length-drop, get_or-set_other}
 use borrow.Author.Tests.{eq-eqb, le-leb, lt-ltb}
@@ -32,8 +32,6 @@ use Rattle.connections.proofs.Laws.Turn.Kept.{leaves_all, leaves_others, turn-ke
 use Rattle.connections.proofs.Laws.Turn.Laws.{told-by, turn-call, turn_number_lem}
 use Rattle.connections.proofs.Laws.Turn.Played.{PlaysTo, same-answers}
 use Rattle.connections.specs.declared.connection.Connection.{Connection}
-use Rattle.connections.specs.declared.round.Served.{Served}
-use Rattle.connections.specs.declared.round.Served.TheVariants.{Nobody, One}
 
 -- ---- lists in which one element alone counts
 
@@ -160,7 +158,7 @@ module _ (r : Room) (is-sound : sound r.table ≡ true) (tells : Asked → Told)
     number : (tells a).number ≡ 0
     number = ap (λ (t : Told). t.number) (told-by (promise a)) ∙ turn_number_lem r a ∙ number-none c l p vs bs r is-sound k g
 
-    served : (tells a).served ≡ One c
+    served : (tells a).served ≡ Some c
     served = alone-served (promise a) number c l (waits c l p vs bs some) (others_wait_not c l p vs bs)
 
     accepts : call.Accepted (control_space r) vs p bs a.buffer (answer (tells a) q) (tells a).values (tells a).buffer
@@ -209,9 +207,9 @@ module _ (r : Room) (is-sound : sound r.table ≡ true) (tells : Asked → Told)
 pub turn-exists : (r : Room) (a : Asked) → (row' : List Connection) × Turns r a (turn r a) row'
 turn-exists r a = go (turn r a).served refl
   where
-    go : (s : Served) → (turn r a).served ≡ s → (row' : List Connection) × Turns r a (turn r a) row'
-    go Nobody e = (a.row, turn-kept r a a.row (rw e (leaves_all refl)))
-    go (One i) e =
+    go : (s : Option ℕ) → (turn r a).served ≡ s → (row' : List Connection) × Turns r a (turn r a) row'
+    go None e = (a.row, turn-kept r a a.row (rw e (leaves_all refl)))
+    go (Some i) e =
         let v = view (port_at a.row i) in
         let q = port_seen (step (control_space r) a.values v (bytes_of a i)).port (call.step-claim (control_space r) v a.values (bytes_of a i)) in
         let c : Connection = record { is_open = true; port = q.0 } in

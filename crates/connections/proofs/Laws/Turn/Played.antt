@@ -1,5 +1,5 @@
 -- Turns that serve one connection alone play its bytes as port calls do: what demand 3 says of calls that were made holds of them.
-use Rattle.std.specs.Prelude.{◌≡◌, List, [], ◌∷◌, map, ℕ, ℤ, drop}
+use Rattle.std.specs.Prelude.{◌≡◌, List, [], ◌∷◌, map, ℕ, ℤ, drop, Some}
 use Rattle.values.specs.Room.{Room}
 use Rattle.serial_port.specs.Call.{Answers}
 use Rattle.serial_port.specs.Play.Calls as calls
@@ -9,7 +9,6 @@ use Rattle.serial_port.specs.declared.port.Port.{Port}
 use Rattle.connections.specs.Connections.{port_at}
 use Rattle.connections.specs.Turn.{Turns, Made, bytes_of, answer}
 use Rattle.connections.proofs.Laws.Turn.Laws.{accepted, accepts, turn-call}
-use Rattle.connections.specs.declared.round.Served.TheVariants.{One}
 
 -- the port call that a turn made for connection c
 unfoldable pub call_of : (c : ℕ) → Made → calls.Made
@@ -20,7 +19,7 @@ call_of c u = record { buffer = u.asked.buffer; answer = answer u.told (port_at 
 abbrev pub PlaysTo : Room → (c : ℕ) → List Made → Port → List ℤ → List ℕ → Type 0
 PlaysTo r c [] p vs bs = bs ≡ []
 PlaysTo r c (u ∷ us) p vs bs =
-    Turns r u.asked u.told u.row × (u.told.number ≡ 0) × (u.told.served ≡ One c)
+    Turns r u.asked u.told u.row × (u.told.number ≡ 0) × (u.told.served ≡ Some c)
     × (port_at u.asked.row c ≡ p) × (u.asked.values ≡ vs) × (bytes_of u.asked c ≡ bs)
     × PlaysTo r c us (port_at u.row c) u.told.values (drop u.told.consumed bs)
 

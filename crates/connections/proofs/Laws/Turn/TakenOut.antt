@@ -1,12 +1,11 @@
 -- A turn for the connection that was taken out of a row of 32, wherever the row is kept: what it tells, and what is put back.
-use Rattle.std.specs.Prelude.{◌≡◌, refl, ℕ, ◌≤◌, ◌<◌, ℤ, length, get_or}
+use Rattle.std.specs.Prelude.{◌≡◌, refl, ℕ, ◌≤◌, ◌<◌, ℤ, length, get_or, None, Option, Some}
 use Rattle.std.proofs.Math.Path.{sym, ap}
 use Rattle.std.proofs.Common.{◌∙◌, arith, get_or-set_same}
 use mathlib.Core.List.{List}
 use Rattle.std.proofs.Math.ListN.{set}
 use Rattle.values.specs.Room.{Room}
 use Rattle.syntax.specs.Shape.{line_limit}
-use Rattle.line.specs.declared.fault.Fault.TheVariants.{Nothing}
 use Rattle.serial_port.specs.Call.{step}
 use Rattle.serial_port.specs.Call.Telling.{few_by, seen_by}
 use Rattle.serial_port.specs.Port.{view}
@@ -23,13 +22,11 @@ use Rattle.connections.specs.Turn.Picking.{number_of, picked, picked_next}
 use Rattle.connections.specs.Turn.Single.{TurnsOne, turns_at}
 use Rattle.connections.proofs.Laws.Turn.Whole.{turn-lent}
 use Rattle.connections.specs.declared.connection.Connection.{Connection}
-use Rattle.connections.specs.declared.round.Served.{Served}
-use Rattle.connections.specs.declared.round.Served.TheVariants.{Nobody, One}
 use Rattle.connections.specs.declared.survey.Survey.{Survey}
 use Rattle.connections.specs.declared.turning.TurnedOne.{TurnedOne}
 
 -- the one to take out is the one that is served
-picked-chosen : (r : Room) (a : Asked) (i : ℕ) → turn_number r a ≡ 0 → chosen a ≡ One i → picked (flags a.row) a.counts a.last ≡ i
+picked-chosen : (r : Room) (a : Asked) (i : ℕ) → turn_number r a ≡ 0 → chosen a ≡ Some i → picked (flags a.row) a.counts a.last ≡ i
 unfolding chosen number_of
 picked-chosen r a i z q =
     let k = accepted r a z in
@@ -37,7 +34,7 @@ picked-chosen r a i z q =
 
 -- a row of another length
 pub misfit_told : (r : Room) (a : Asked) → (length a.row ≡ 32 → ⊥)
-    → turn r a ≡ record { number = 10; served = Nobody; consumed = 0; sent = 0; fault = Nothing; values = a.values; buffer = a.buffer }
+    → turn r a ≡ record { number = 10; served = None; consumed = 0; sent = 0; fault = None; values = a.values; buffer = a.buffer }
 misfit_told r a h = refused-told r a 9 ((exactly_ten r a).1 (row_length h))
 
 -- connection i was served, with the port p handed back: it is seen as the call says, and claims at most 64 bytes
@@ -60,16 +57,16 @@ module _ (r : Room) (a : Asked) (s : Survey) (k : ℕ) (c : Connection) (d : Tur
   taken_field f = ap f (told-by made)
 
   -- with nobody served it counts zero
-  pub taken_nobody : d.turned.served ≡ Nobody
-      → record { number = d.turned.number; served = Nobody; consumed = 0; sent = 0; fault = Nothing; values = vs'; buffer = buffer' } ≡ turn r a
+  pub taken_nobody : d.turned.served ≡ None
+      → record { number = d.turned.number; served = None; consumed = 0; sent = 0; fault = None; values = vs'; buffer = buffer' } ≡ turn r a
   unfolding tells idle
   taken_nobody w =
       let q = (nobody_changes made w).1 in
       let number = ap (λ (t : Told). t.number) q in
       let values = ap (λ (t : Told). t.values) q in
       let buffer = ap (λ (t : Told). t.buffer) q in
-      let z : record { number = d.turned.number; served = Nobody; consumed = 0; sent = 0; fault = Nothing; values = vs'; buffer = buffer' } ≡ idle (turn_number r a) a =
-      λ j. record { number = number j; served = Nobody; consumed = 0; sent = 0; fault = Nothing; values = values j; buffer = buffer j } in
+      let z : record { number = d.turned.number; served = None; consumed = 0; sent = 0; fault = None; values = vs'; buffer = buffer' } ≡ idle (turn_number r a) a =
+      λ j. record { number = number j; served = None; consumed = 0; sent = 0; fault = None; values = values j; buffer = buffer j } in
       z ∙ sym q ∙ told-by made
 
   same_flags : s.flags ≡ flags a.row
@@ -80,7 +77,7 @@ module _ (r : Room) (a : Asked) (s : Survey) (k : ℕ) (c : Connection) (d : Tur
   port_there i l w = rw (← w) (ap (λ (x : Connection). x.port) (get_or-set_same a.row k d.connection closed (omega arith)))
 
   -- the port to be put back is that of the call
-  pub taken_back : (i : ℕ) → d.turned.served ≡ One i → Back r a i d.connection.port
+  pub taken_back : (i : ℕ) → d.turned.served ≡ Some i → Back r a i d.connection.port
   unfolding tells answer
   taken_back i w = go d.turned.served w (served-as made)
     where
@@ -90,9 +87,9 @@ module _ (r : Room) (a : Asked) (s : Survey) (k : ℕ) (c : Connection) (d : Tur
       t : Told
       t = tells d.turned vs' buffer'
 
-      go : (x : Served) → x ≡ One i → ServedAs r a t row' x → Back r a i d.connection.port
-      go Nobody y (nobody_served same told) = absurd (let z : ◌≡◌ {A = ℕ} 0 1 = cc in omega arith)
-      go (One j) y (one_served j' z g l b) =
+      go : (x : Option ℕ) → x ≡ Some i → ServedAs r a t row' x → Back r a i d.connection.port
+      go None y (nobody_served same told) = absurd (let z : ◌≡◌ {A = ℕ} 0 1 = cc in omega arith)
+      go (Some j) y (one_served j' z g l b) =
           let same : j ≡ i = cc in
           let there : k ≡ i = q ∙ ap (λ f. picked f a.counts a.last) same_flags ∙ picked-chosen r a j z g ∙ same in
           let number : t.number ≡ 0 = taken_field (λ (t : Told). t.number) ∙ turn_number_lem r a ∙ z in

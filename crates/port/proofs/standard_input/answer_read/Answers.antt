@@ -2,9 +2,7 @@
 use Rattle.std.proofs.Common.{rules}
 use Rattle.port.specs.Input.Answering.{one_read}
 use Rattle.port.proofs.standard_input.answer_read.Goals as goal
-
-pub returns-then-not-write_whole : goal.returns-then-not-write_whole
-returns-then-not-write_whole g c = search (one_read, rules)
+use Rattle.port.proofs.standard_input.answer_read.Goals.{in-Ok, in-Err}
 
 pub returns : goal.returns
-returns g c = search (one_read, rules)
+returns g c = elim c.match-write_whole.branch [ in-Ok w ↦ rw w.came-is (search (one_read, rules)) | in-Err w ↦ rw w.came-is (search (one_read, rules)) ]

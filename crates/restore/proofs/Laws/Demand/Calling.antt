@@ -3,6 +3,9 @@ use Rattle.std.specs.Prelude.{◌≡◌, refl, true, List, [], ◌∷◌, ℕ, �
 use Rattle.std.proofs.Common.{sym, ◌∙◌, arith}
 use Rattle.text.specs.Written.{Wrote}
 use Rattle.text.specs.Written.Laws.{bytes-by, wrote_nothing}
+use Rattle.room.specs.Refusal.{refusal_number}
+use Rattle.room.specs.Refusal.Laws.{refusal-some}
+use Rattle.room.specs.declared.refusal.Refusal.{Refusal}
 use Rattle.wish.specs.Target.{wish_of}
 use Rattle.wish.specs.Listing.{Admitted, Change, all_reachable, changes, listing, size_number, test_number}
 use Rattle.wish.specs.Listing.Laws.{listing_none}
@@ -16,11 +19,15 @@ use Rattle.restore_list.specs.declared.module_measuring.Measured.TheVariants.{Wi
 use Rattle.restore.specs.Demand.{Restores, Sizes}
 use Rattle.restore.proofs.Laws.Demand.Rules.{returns_listed, returns_refused, sizes-listed, sizes-refused}
 use Rattle.restore.proofs.Laws.Demand.Sized.{bytes-accepted, lines_accepted, size-listed, size_none, size-numbered}
-use Rattle.restore.specs.declared.Restored.{Restored}
+use Rattle.restore.specs.Restored.{Restored}
 
 no_change : (cs : List Change) → length cs ≡ 0 → cs ≡ []
 no_change [] e = refl
 no_change (c ∷ cs) e = absurd (omega arith)
+
+all_zero : (bytes lines number : ℕ) → bytes ≡ 0 → lines ≡ 0 → number ≡ 0
+    → ◌≡◌ {A = Restored} (record { bytes = bytes; lines = lines; number = number }) (record { bytes = 0; lines = 0; number = 0 })
+all_zero bytes lines number b l i = rw (b, l, i) refl
 
 -- ---- the list measured
 
@@ -32,7 +39,7 @@ module _ (t : List ℕ) (vs : List ℤ) (selection : List ℕ) (ws : List ℤ) (
   pub admits : n ≡ 0 → Admitted (wish_of t vs selection ws)
   admits h = test_admits (wish_of t vs selection ws) (sym e ∙ h)
 
-pub ruleset testing_call = (refuses-test, admits)
+pub ruleset testing_call = (refusal-some, refuses-test, admits)
 
 module _ (t : List ℕ) (vs : List ℤ) (selection : List ℕ) (ws : List ℤ) (a : Admitted (wish_of t vs selection ws)) where
   -- its lists match the table
@@ -78,6 +85,13 @@ module _ (t : List ℕ) (vs : List ℤ) (selection : List ℕ) (ws : List ℤ) (
       rw k (returns_listed w buffer (record { bytes = 0; lines = 0; number = 0 }) buffer (written_fits w (length buffer) z (rw b (omega arith))) refl (rw b refl) (rw n refl)
       (rw b (bytes-by (wrote_nothing buffer 0))))
 
+  pub returns_none : s.number ≡ 0 → s.lines ≡ 0 → Restores (wish_of t vs selection ws) buffer s buffer
+  returns_none i l =
+      let z : size_number (wish_of t vs selection ws) ≡ 0 = omega (arith, size-numbered h) in
+      let n : changes (wish_of t vs selection ws) ≡ [] = no_change (changes (wish_of t vs selection ws)) (sym (size-listed h z).1 ∙ l) in
+      let b : s.bytes ≡ 0 = (size-listed h z).0 ∙ rw (n, listing_none t) refl in
+      returns_empty s (omega arith) l (all_zero s.bytes s.lines s.number b l i)
+
   module _ (l : s.lines ≡ 0 → ⊥) where
     pub list-matches : Matching t vs selection ws
     list-matches = admitted_lists (wish_of t vs selection ws) (size-admits (wish_of t vs selection ws) (λ i j. omega (arith, lines_accepted h l)))
@@ -96,4 +110,11 @@ module _ (t : List ℕ) (vs : List ℤ) (selection : List ℕ) (ws : List ℤ) (
           returns_listed w buffer s after (written_fits w (length buffer) z fits) (sym (size-numbered h) ∙ z) (size-listed h z).0 (size-listed h z).1
           (rw (wish_changes w) (bytes-by o))
 
-pub ruleset writing_call = (refuses-size, refuses-room, returns_empty, list-matches, list-room, returns_list)
+-- the refusal of the size is handed on
+pub refuses-size_by : (t : List ℕ) (vs : List ℤ) (selection : List ℕ) (ws : List ℤ) (buffer : List ℕ) (e : Refusal)
+    → Sizes (wish_of t vs selection ws) (record { bytes = 0; lines = 0; number = refusal_number e })
+    → Restores (wish_of t vs selection ws) buffer (record { bytes = 0; lines = 0; number = refusal_number e }) buffer
+refuses-size_by t vs selection ws buffer e h =
+    refuses-size t vs selection ws buffer (record { bytes = 0; lines = 0; number = refusal_number e }) h 0 (omega (arith, refusal-some e))
+
+pub ruleset writing_call = (refuses-size_by, refuses-room, returns_none, list-matches, list-room, returns_list)

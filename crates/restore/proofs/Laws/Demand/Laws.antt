@@ -32,7 +32,7 @@ use Rattle.wish.specs.Listing.Telling.{listed_told, refused-told}
 use Rattle.restore.specs.Demand.Pair.{paired}
 use Rattle.restore.specs.Demand.Played.{listing-bytes, play-listing}
 use Rattle.restore.specs.Demand.{Fulfils, Shortest, Listed, SizeDemanded, within, beyond, Demanded, accepted, unreachable, no_room, DemandThree, SizeDemand, size_told, tells, Restores, restores, Sizes, sizes}
-use Rattle.restore.specs.declared.Restored.{Restored}
+use Rattle.restore.specs.Restored.{Restored}
 
 -- the list of a wish
 unfoldable pub list : Wish → List ℕ

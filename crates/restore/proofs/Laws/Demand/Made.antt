@@ -17,7 +17,7 @@ use Rattle.restore.specs.Demand.{Fulfils, Listed, Demanded, accepted, unreachabl
 use Rattle.restore.specs.Demand.Exactly.{exactly_seven, exactly_eight, size-exactly_seven, size-least}
 use Rattle.restore.proofs.Laws.Demand.Laws.{told-by, demand_by, measured-by}
 use Rattle.restore.proofs.Laws.Demand.Sized.{size-numbered}
-use Rattle.restore.specs.declared.Restored.{Restored}
+use Rattle.restore.specs.Restored.{Restored}
 
 -- the calls cs play bs, as `Plays` says, on the wish's table, from the fresh port p and the present values on
 pub record Playing (w : Wish) (p : Port) (cs : List Made) (bs : List ℕ) : Type 0 where

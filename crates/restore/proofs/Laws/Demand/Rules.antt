@@ -8,7 +8,7 @@ use Rattle.wish.specs.Listing.Sizing.{size-refused, size_told_lem}
 use Rattle.wish.specs.Listing.Telling.{listed_told, refused-told}
 use Rattle.restore.specs.Demand.{Restores, Sizes, size_told, tells}
 use Rattle.restore.proofs.Laws.Demand.Laws.{told-restores, told-sizes}
-use Rattle.restore.specs.declared.Restored.{Restored}
+use Rattle.restore.specs.Restored.{Restored}
 
 module _ (w : Wish) where
   pub sizes-refused : (n : ℕ) → size_number w ≡ n → (n ≡ 0 → ⊥) → Sizes w (record { bytes = 0; lines = 0; number = n })

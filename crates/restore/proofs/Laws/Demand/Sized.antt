@@ -6,7 +6,7 @@ use Rattle.wish.specs.Listing.{changes, listing, size, size_number}
 use Rattle.wish.specs.Listing.Sizing.{size_number_lem, size-refused, size_told_lem}
 use Rattle.restore.specs.Demand.{Sizes, size_told}
 use Rattle.restore.proofs.Laws.Demand.Laws.{size-by}
-use Rattle.restore.specs.declared.Restored.{Restored}
+use Rattle.restore.specs.Restored.{Restored}
 
 module _ {w : Wish} {s : Restored} (h : Sizes w s) where
   -- its parts, written out

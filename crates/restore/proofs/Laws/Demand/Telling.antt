@@ -5,7 +5,7 @@ use Rattle.wish.specs.Target.{Wish}
 use Rattle.wish.specs.Listing.{Size, Told, restore, size}
 use Rattle.restore.specs.Demand.{Restores, Sizes, size_told, tells}
 use Rattle.restore.proofs.Laws.Demand.Laws.{size-by, told-by}
-use Rattle.restore.specs.declared.Restored.{Restored}
+use Rattle.restore.specs.Restored.{Restored}
 
 -- a field of what it told, or whatever else is made of that: of the size call, and of the writing call
 pub size-field : {w : Wish} {r : Restored} → Sizes w r → {A : Type 0} (f : Size → A) → f (record { number = r.number; bytes = r.bytes; lines = r.lines }) ≡ f (size w)

@@ -7,7 +7,7 @@ use Rattle.connections.proofs.Laws.Turn.Played.{PlaysTo, call_of, turns_play}
 use Rattle.wish.specs.Target.{Wish}
 use Rattle.restore.specs.Demand.{Restores, Sizes}
 use Rattle.restore.proofs.Laws.Demand.Made.{Playing, Reaches, Fulfilling, over_calls, size-over_calls}
-use Rattle.restore.specs.declared.Restored.{Restored}
+use Rattle.restore.specs.Restored.{Restored}
 
 -- the turns us play bs to connection c, as `PlaysTo` says, on the wish's table, from the fresh port p of that connection and the present values on
 pub record PlayingTo (w : Wish) (c : ℕ) (p : Port) (us : List Made) (bs : List ℕ) : Type 0 where

@@ -1,11 +1,10 @@
 -- Parameters that lines can set, and that the others stay as they are.
-use Rattle.std.specs.Prelude.{◌≡◌, true, false, List, ℕ, ◌≤◌, ℤ, pos, length, get_or}
+use Rattle.std.specs.Prelude.{◌≡◌, true, false, List, ℕ, ◌≤◌, ℤ, pos, length, get_or, Some}
 use Rattle.std.proofs.Common.{sym, ◌∙◌, ap, true≢false, get_or-set_other}
 use Rattle.values.specs.Parameters.{parameters, place, parameter_at}
 use Rattle.values.specs.Room.{Room}
 use Rattle.values.specs.Settable.{Settable}
 use Rattle.values.specs.declared.parameter.Parameter.{Parameter}
-use Rattle.values.specs.declared.parameter.ParameterFound.TheVariants.{At}
 use Rattle.syntax.specs.Shape.{line_limit}
 use Rattle.line.specs.Answer.{answer}
 use Rattle.serial_port.specs.Server.{control_space}
@@ -24,10 +23,10 @@ Stays k v vs = get_or vs k (pos 0) ≡ v
 
 module _ (r : Room) (lines : Lines r) where
   -- a parameter beyond reach stays as it is, whatever the line
-  module _ (k : ℕ) (p : Parameter) (v : ℤ) (at : parameter_at (parameters r.table) k ≡ At p) (blocked : reachable r.table p ≡ false) where
+  module _ (k : ℕ) (p : Parameter) (v : ℤ) (at : parameter_at (parameters r.table) k ≡ Some p) (blocked : reachable r.table p ≡ false) where
     other : (q : Parameter) → Settable r.table q → k ≡ place q → ⊥
     other q s e =
-        let same : q ≡ p = let a : At q ≡ At p = sym s.listed ∙ ap (parameter_at (parameters r.table)) (sym e) ∙ at in cc in
+        let same : q ≡ p = let a : Some q ≡ Some p = sym s.listed ∙ ap (parameter_at (parameters r.table)) (sym e) ∙ at in cc in
         true≢false (sym (settable_reachable r.table q s) ∙ ap (reachable r.table) same ∙ blocked)
 
     line_keeps : (vs : List ℤ) (l : List ℕ) → length l ≤ line_limit → Stays k v vs → Stays k v (answer r vs l).values

@@ -25,7 +25,7 @@ write_module_spec =
     (λ c. search (module_putting, parting, rules))  -- slice_bounds-write_listed-count-then-is_fixed
     (λ c. search (module_putting, parting, rules))  -- slice_bounds-write_listed-start-then-is_fixed
     (λ c. search (module_putting, parting, rules))  -- slice_bounds-write_listed-end-then-is_fixed
-    (λ c κs. ((search rules, search rules, search (kind-flag, rules), search rules, search (label-long, rules)), ((search (parting, rules), search (parting, rules)), search (chosen-room, rules))))  -- write_listed-requires
+    (λ c κs. ((search rules, search (kind-flag, rules), search rules, search (label-long, rules)), ((search (parting, rules), search (parting, rules)), search (chosen-room, rules))))  -- write_listed-requires
     (λ c. search (module_putting, parting, rules))  -- shape_of-list-then-is_fixed
     (λ c. search (module_putting, parting, rules))  -- returns-then-is_fixed
     (λ c. search (module_putting, parting, rules))  -- offset_bounds-present-first-2
@@ -36,6 +36,6 @@ write_module_spec =
     (λ c. search (module_putting, parting, rules))  -- slice_bounds-write_rows-count-2
     (λ c. search (module_putting, parting, rules))  -- slice_bounds-write_rows-start-2
     (λ c. search (module_putting, parting, rules))  -- slice_bounds-write_rows-end-2
-    (λ c κs. ((search rules, search rules, search rules, search (label-long, rules)), ((search (parting, rules), search (parting, rules)), search (chosen-room, rules))))  -- write_rows-requires
+    (λ c κs. ((search rules, search rules, search (label-long, rules)), ((search (parting, rules), search (parting, rules)), search (chosen-room, rules))))  -- write_rows-requires
     (λ c. search (module_putting, parting, rules))  -- shape_of-list
     (λ c. search (module_putting, parting, rules)))  -- returns

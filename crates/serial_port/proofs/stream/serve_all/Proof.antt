@@ -8,10 +8,10 @@ use Rattle.serial_port.proofs.stream.serve_all.Statement.{statement}
 use Rattle.serial_port.proofs.stream.serve_all.Tie as tie
 
 abbrev invariant-loop-at : tie.invariant-loop-at
-invariant-loop-at table rows values₀ given out₀ port₀ at₀ end₀ values out port at end = Serving (room_of table) values₀ port₀ given out₀ values port at end out
+invariant-loop-at table values₀ given out₀ port₀ at₀ end₀ values out port at end = Serving (room_of table) values₀ port₀ given out₀ values port at end out
 
 abbrev decreases-loop-at : tie.decreases-loop-at
-decreases-loop-at table rows values₀ given out₀ port₀ at₀ end₀ values out port at end = length given - at
+decreases-loop-at table values₀ given out₀ port₀ at₀ end₀ values out port at end = length given - at
 
 pub serve_all_spec : {M : Type 1} → statement M
 serve_all_spec =

@@ -3,8 +3,8 @@ use Rattle.std.proofs.Common.{rules}
 use Rattle.turns.specs.Input.Reading.{commands}
 use Rattle.turns.proofs.input.play_all.Goals as goal
 
-pub slice_bounds-told-end : goal.slice_bounds-told-end
-slice_bounds-told-end g c = search (commands, rules)
+pub shared_ref_as_front-write_whole : goal.shared_ref_as_front-write_whole
+shared_ref_as_front-write_whole g c = search (commands, rules)
 
 pub slice_bounds-write_whole-end : goal.slice_bounds-write_whole-end
 slice_bounds-write_whole-end g c = search (commands, rules)

@@ -4,6 +4,3 @@ use Rattle.turns.proofs.input.play_all.Given as goal
 
 abbrev pub invariant-loop-commands : goal.invariant-loop-commands
 invariant-loop-commands g l = Goes l.initial.values l.initial.input l.initial.reply l.values l.input l.reply
-
-abbrev pub decreases-loop-commands : goal.decreases-loop-commands
-decreases-loop-commands g l = l.commands

@@ -1,10 +1,6 @@
 -- `counts_of`: count after count.
-use Rattle.std.proofs.Common.{length, ◌-◌}
 use Rattle.turns.specs.Play.Counting.{Counted}
 use Rattle.turns.proofs.play.counts_of.Given as goal
 
 abbrev pub invariant-loop-i : goal.invariant-loop-i
 invariant-loop-i l = Counted l.bytes l.i l.counts
-
-abbrev pub decreases-loop-i : goal.decreases-loop-i
-decreases-loop-i l = length l.bytes - l.i

@@ -1,10 +1,9 @@
 -- A wanted change that is beyond reach: which parameter it is of.
-use Rattle.std.specs.Prelude.{◌≡◌, refl, Bool, true, false, cond, List, [], ◌∷◌, ℕ, suc, ℤ, pos, get_or}
+use Rattle.std.specs.Prelude.{◌≡◌, refl, Bool, true, false, cond, List, [], ◌∷◌, ℕ, suc, ℤ, pos, get_or, Some}
 use Rattle.std.proofs.Common.{sym, ◌∙◌, ap, true≢false}
 use Rattle.values.specs.Parameters.{parameter_at, parameters}
 use Rattle.values.specs.Parameters.Elements.{element_first, element_later}
 use Rattle.values.specs.declared.parameter.Parameter.{Parameter}
-use Rattle.values.specs.declared.parameter.ParameterFound.TheVariants.{At}
 use Rattle.wish.specs.Target.{Wish, target}
 use Rattle.wish.specs.Listing.{Change, changes_of, changes, reachable, all_reachable}
 use Rattle.values.specs.Values.{equal}
@@ -14,7 +13,7 @@ use Rattle.values.specs.Values.Laws.{equal-refl}
 pub record Beyond (t : List ℕ) (ps : List Parameter) (vs xs : List ℤ) : Type 0 where
   pub number : ℕ
   pub parameter : Parameter
-  pub found : parameter_at ps number ≡ At parameter
+  pub found : parameter_at ps number ≡ Some parameter
   pub blocked : reachable t parameter ≡ false
   pub differs : get_or vs number (pos 0) ≡ get_or xs number (pos 0) → ⊥
 

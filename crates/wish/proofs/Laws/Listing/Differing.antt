@@ -1,5 +1,5 @@
 -- The changes between two lists of values: what they are of, what holds of each, and that made one after the other they lead from the one to the other.
-use Rattle.std.specs.Prelude.{◌≡◌, refl, Bool, true, false, cond, List, [], ◌∷◌, ◌++◌, ℕ, zero, suc, ◌+◌, ℤ, pos, length, get_or, set}
+use Rattle.std.specs.Prelude.{◌≡◌, refl, Bool, true, false, cond, List, [], ◌∷◌, ◌++◌, ℕ, zero, suc, ◌+◌, ℤ, pos, length, get_or, set, Some}
 use Rattle.std.proofs.Common.{sym, ◌∙◌, zero-add, arith, length-append}
 use Rattle.std.proofs.Math.Seq.{append_snoc}
 use Rattle.std.proofs.lemmas.List.{set_at}
@@ -9,7 +9,6 @@ use Rattle.values.specs.Parameters.Places.{at_place}
 use Rattle.values.specs.Values.{equal}
 use Rattle.values.specs.Values.Laws.{equal-true, values_many}
 use Rattle.values.specs.declared.parameter.Parameter.{Parameter}
-use Rattle.values.specs.declared.parameter.ParameterFound.TheVariants.{At}
 use Rattle.wish.specs.Target.{Wish, target}
 use Rattle.wish.specs.Target.Laws.{target_right}
 use Rattle.wish.specs.Listing.{Admitted, Change, changes, changes_of}
@@ -49,7 +48,7 @@ AllOf P [] = Unit
 AllOf P (c ∷ cs) = P c × AllOf P cs
 
 pub differ-each : (P : Change → Type 0) {ps : List Parameter} {vs xs : List ℤ} {cs : List Change} → Differ ps vs xs cs
-    → ((k : ℕ) (p : Parameter) → parameter_at ps k ≡ At p → P (record { parameter = p; present = get_or vs k (pos 0); target = get_or xs k (pos 0) }))
+    → ((k : ℕ) (p : Parameter) → parameter_at ps k ≡ Some p → P (record { parameter = p; present = get_or vs k (pos 0); target = get_or xs k (pos 0) }))
     → AllOf P cs
 differ-each P none f = tt
 differ-each P (same p v {ps = ps} d) f = differ-each P d (λ k q e. f (suc k) q (element_later p ps k ∙ e))
@@ -63,7 +62,7 @@ made (c ∷ cs) vs = made cs (set vs (place c.parameter) c.target)
 
 -- the parameters ps stand behind those of the values `before`
 abbrev Behind : List ℤ → List Parameter → Type 0
-Behind before ps = (k : ℕ) (p : Parameter) → parameter_at ps k ≡ At p → place p ≡ length before + k
+Behind before ps = (k : ℕ) (p : Parameter) → parameter_at ps k ≡ Some p → place p ≡ length before + k
 
 behind_more : (before : List ℤ) (v : ℤ) (p : Parameter) (ps : List Parameter) → Behind before (p ∷ ps) → Behind (before ++ v ∷ []) ps
 behind_more before v p ps f k q e =

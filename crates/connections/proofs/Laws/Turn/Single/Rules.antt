@@ -1,10 +1,12 @@
 -- How a turn for one connection keeps its promise.
-use Rattle.std.specs.Prelude.{◌≡◌, refl, Bool, true, ◌&&◌, List, ℕ, ◌+◌, ◌-◌, ◌^◌, ◌≤◌, ◌<◌, leb, ℤ, length, get_or, take, drop}
+use Rattle.std.specs.Prelude.{◌≡◌, refl, Bool, true, ◌&&◌, List, ℕ, ◌+◌, ◌-◌, ◌^◌, ◌≤◌, ◌<◌, leb, ℤ, length, get_or, take, drop, None, Option, Some}
 use Rattle.std.proofs.Common.{sym, ◌∙◌, arith, leb-true}
 use Rattle.text.specs.Every.Laws.{both}
-use Rattle.room.specs.Refusal.Laws.{all_passed, passed_test}
+use Rattle.room.specs.Refusal.{refusal_number}
+use Rattle.room.specs.Refusal.Laws.{all_passed, passed_test, refusal-some}
 use Rattle.room.specs.Table.{sound}
 use Rattle.room.specs.Table.Number.{passed_table}
+use Rattle.room.specs.declared.refusal.Refusal.{Refusal}
 use Rattle.values.specs.Room.{Room, room_of}
 use Rattle.values.specs.Values.{values_sound}
 use Rattle.values.specs.Values.Number.{passed_values}
@@ -19,8 +21,6 @@ use Rattle.connections.proofs.Laws.Turn.Laws.{counts_accepted}
 use Rattle.connections.specs.Turn.Number.{number_by, fit_number}
 use Rattle.connections.specs.Turn.Single.{still, ServesNext, serves_next, ServesWaiting, nobody_waits, one_waits, TurnsOne, refused, accepted}
 use Rattle.connections.specs.declared.connection.Connection.{Connection}
-use Rattle.connections.specs.declared.round.Served.{Served}
-use Rattle.connections.specs.declared.round.Served.TheVariants.{Nobody, One}
 use Rattle.connections.specs.declared.serving.ServedOne.{ServedOne}
 use Rattle.connections.specs.declared.survey.Survey.{Survey}
 use Rattle.connections.specs.declared.turning.Turned.{Turned}
@@ -44,7 +44,7 @@ own-part counts given i start e = let q : start + get_or counts i 0 - start ≡ 
 pub next-served : (r : Room) (i start : ℕ) (counts given : List ℕ) (vs : List ℤ) (buffer : List ℕ) (c : Connection) (d : ServedOne) (vs' : List ℤ) (buffer' : List ℕ)
     → start ≡ part_start counts i → Serves r c (take (start + get_or counts i 0 - start) (drop start given)) vs buffer d vs' buffer'
     → ServesNext r i counts given vs buffer c
-    (record { connection = d.connection; turned = record { served = One i; consumed = d.answer.consumed; sent = d.answer.sent; fault = d.answer.fault; number = d.answer.number } }) vs' buffer'
+    (record { connection = d.connection; turned = record { served = Some i; consumed = d.answer.consumed; sent = d.answer.sent; fault = d.answer.fault; number = d.answer.number } }) vs' buffer'
 next-served r i start counts given vs buffer c d vs' buffer' e h = serves_next d.answer refl (rw (own-part counts given i start e) at h)
 
 -- ---- what the number 0 tells
@@ -92,18 +92,18 @@ none_table t few last counts bytes vs room n e z = (lent_passed (room_of t) few 
 -- ---- the three ways
 
 -- whoever is next has a count
-pub next-within : (last : ℕ) (counts : List ℕ) (flags : List Bool) (s : Served) (i : ℕ) → last ≤ 31 → length counts ≡ 32 → s ≡ next last (waits_by flags counts) → s ≡ One i → i < length counts
+pub next-within : (last : ℕ) (counts : List ℕ) (flags : List Bool) (s : Option ℕ) (i : ℕ) → last ≤ 31 → length counts ≡ 32 → s ≡ next last (waits_by flags counts) → s ≡ Some i → i < length counts
 next-within last counts flags s i b n q h = go (next last (waits_by flags counts)) (sym q ∙ h) (next-chosen last (waits_by flags counts) (omega arith))
   where
-    go : (t : Served) → t ≡ One i → Chosen last (waits_by flags counts) t → i < length counts
-    go Nobody k (nobody m) = absurd (let y : ◌≡◌ {A = ℕ} 0 1 = cc in omega arith)
-    go (One j) k (one j' l m o) = let same : j ≡ i = cc in omega (arith, n, l, same)
+    go : (t : Option ℕ) → t ≡ Some i → Chosen last (waits_by flags counts) t → i < length counts
+    go None k (nobody m) = absurd (let y : ◌≡◌ {A = ℕ} 0 1 = cc in omega arith)
+    go (Some j) k (one j' l m o) = let same : j ≡ i = cc in omega (arith, n, l, same)
 
-module _ (r : Room) (flags : List Bool) (last : ℕ) (counts given : List ℕ) (vs : List ℤ) (buffer : List ℕ) (c : Connection) (t : Served) (q : t ≡ next last (waits_by flags counts)) where
-  pub nobody_turns : (u : Turned) → t ≡ Nobody → u ≡ still 0 → ServesWaiting r flags last counts given vs buffer c (record { connection = c; turned = u }) vs buffer
+module _ (r : Room) (flags : List Bool) (last : ℕ) (counts given : List ℕ) (vs : List ℤ) (buffer : List ℕ) (c : Connection) (t : Option ℕ) (q : t ≡ next last (waits_by flags counts)) where
+  pub nobody_turns : (u : Turned) → t ≡ None → u ≡ still 0 → ServesWaiting r flags last counts given vs buffer c (record { connection = c; turned = u }) vs buffer
   nobody_turns u h k = nobody_waits (sym q ∙ h) (rw k refl) refl refl
 
-  pub next-turns : (i : ℕ) (d : TurnedOne) (vs' : List ℤ) (buffer' : List ℕ) → t ≡ One i → ServesNext r i counts given vs buffer c d vs' buffer'
+  pub next-turns : (i : ℕ) (d : TurnedOne) (vs' : List ℤ) (buffer' : List ℕ) → t ≡ Some i → ServesNext r i counts given vs buffer c d vs' buffer'
       → ServesWaiting r flags last counts given vs buffer c d vs' buffer'
   next-turns i d vs' buffer' h k = one_waits i (sym q ∙ h) k
 
@@ -121,4 +121,10 @@ module _ (r : Room) (s : Survey) (last : ℕ) (counts given : List ℕ) (vs : Li
       → TurnsOne r s last counts given vs buffer c d vs' buffer'
   turn-served d vs' buffer' z k = accepted (sym e ∙ z) k
 
-pub ruleset turning = (none_length, none_total, none_last, none_table, none_values, none_reply, turn-refused, turn-accepted, turn-served)
+-- refused, by the refusal of which the number is told
+pub turn-refused_by : (r : Room) (s : Survey) (last : ℕ) (counts given : List ℕ) (vs : List ℤ) (buffer : List ℕ) (c : Connection) (x : Refusal) (n : ℕ) (u : Turned)
+    → refusal_number x ≡ number_by r s.few last counts (length given) vs (length buffer) → n ≡ refusal_number x → u ≡ still n
+    → TurnsOne r s last counts given vs buffer c (record { connection = c; turned = u }) vs buffer
+turn-refused_by r s last counts given vs buffer c x n u e b q = turn-refused r s last counts given vs buffer c n (b ∙ e) u (λ z. refusal-some x (sym b ∙ z)) q
+
+pub ruleset turning = (none_length, none_total, none_last, none_table, none_values, none_reply, turn-refused_by, turn-accepted, turn-served)

@@ -1,5 +1,5 @@
 -- The price of a list of changes as a potential: no line lowers it by more than its bytes and its 0D.
-use Rattle.std.specs.Prelude.{◌≡◌, refl, List, [], ◌∷◌, ℕ, zero, suc, ◌+◌, ◌≤◌, ◌<◌, ℤ, pos, length, get_or, set}
+use Rattle.std.specs.Prelude.{◌≡◌, refl, List, [], ◌∷◌, ℕ, zero, suc, ◌+◌, ◌≤◌, ◌<◌, ℤ, pos, length, get_or, set, Some}
 use Rattle.std.proofs.Common.{◌∙◌, ap, arith, length-append}
 use Rattle.values.specs.Parameters.{parameter_at, parameters, place}
 use Rattle.values.specs.Parameters.Elements.{at-element}
@@ -13,7 +13,6 @@ use Rattle.wish.proofs.Laws.Listing.Differing.{Differ, none, other, same}
 use Rattle.wish.specs.Listing.Laws.{listing-first, listing_none}
 use Rattle.restore.specs.Demand.Lines.{price, Effect, nothing, puts, Lines}
 use Rattle.values.specs.Values.Laws.{equal-refl, value_permitted, values_many, at-inside}
-use Rattle.values.specs.declared.parameter.ParameterFound.TheVariants.{At}
 
 -- ---- a function of each value, summed
 
@@ -79,7 +78,7 @@ module _ (r : Room) (lines : Lines r) (xs : List ℤ) (permits : Right r xs) whe
       fs = prices r.table (parameters r.table) xs
 
       -- the price of p, to its target
-      at_place : (p : Parameter) → parameter_at (parameters r.table) (place p) ≡ At p → get_or fs (place p) free ≡ price r.table p (get_or xs (place p) (pos 0))
+      at_place : (p : Parameter) → parameter_at (parameters r.table) (place p) ≡ Some p → get_or fs (place p) free ≡ price r.table p (get_or xs (place p) (pos 0))
       at_place p e =
           let here = at-inside (parameters r.table) (place p) p e in
           price-at r.table (parameters r.table) xs (place p) p here (omega (arith, values_many r xs permits))

@@ -1,6 +1,6 @@
 -- The price of a routing word: nothing where no output differs, the line for the output where one alone does, else the word's line. No line that sets the
 -- word spares more than its bytes, and so no mixture of lines for outputs and for the word is shorter.
-use Rattle.std.specs.Prelude.{◌≡◌, Bool, true, List, [], ◌∷◌, ℤ, pos, nat_abs}
+use Rattle.std.specs.Prelude.{◌≡◌, Bool, true, List, [], ◌∷◌, ℤ, pos, nat_abs, Some}
 use Rattle.std.proofs.Math.Path.{refl}
 use Rattle.std.proofs.Common.{sym, ◌∙◌, ap, true≢false, arith}
 use Rattle.std.proofs.Math.Bool.{false}
@@ -16,7 +16,6 @@ use Rattle.values.specs.Parameters.{parameters_of, parameter_at}
 use Rattle.values.specs.Values.{equal}
 use Rattle.values.specs.Values.Laws.{equal-refl, equal-true}
 use Rattle.values.specs.declared.parameter.Parameter.{Parameter}
-use Rattle.values.specs.declared.parameter.ParameterFound.TheVariants.{At}
 use Rattle.spelling.specs.Line.{line_for}
 use Rattle.spelling.specs.Say.{say}
 use Rattle.spelling.specs.Say.Laws.{SaidBy, plain, same, alone, more, said-by, say-line}
@@ -41,7 +40,7 @@ pub record IsWord (v : ℤ) : Type 0 where
   pub natural : pos (nat_abs v) ≡ v
   pub small : nat_abs v < 2 ^ 32
 
-module _ (t : List ℕ) (p : Parameter) (known : known_layout p.owner.layout ≡ true) (own : parameter_at (parameters_of p.owner) p.number ≡ At p)
+module _ (t : List ℕ) (p : Parameter) (known : known_layout p.owner.layout ≡ true) (own : parameter_at (parameters_of p.owner) p.number ≡ Some p)
     (word : p.row.kind ≡ Word) where
   -- what it costs to take the word from v to x, by the outputs in which they differ
   data Priced (x v : ℤ) : Type 0 where

@@ -1,0 +1,84 @@
+-- `wanted_right`: the entries of the records passed are right.
+use Rattle.std.proofs.Common.{◌≡◌, ◌∙◌, true, rules, sym}
+use Rattle.room.specs.Table.{sound}
+use Rattle.room.specs.Table.Steps.{Step, past_end, step_known, step_of, stepping, walk_start_of, walk_step}
+use Rattle.room.specs.Table.Walk.{Walk}
+use Rattle.values.specs.Room.{room_of}
+use Rattle.wish.specs.Target.Wanting.{wanting, wanting_all, wanting_begun, want_before, want_byte, want_ended, want_next, want_short, want_wrong}
+use Rattle.wish.proofs.wanted_right.Goals as goal
+
+pub loop-m-init-derived : goal.loop-m-init-derived
+loop-m-init-derived c = search (stepping, rules)
+
+pub loop-m-init : goal.loop-m-init
+loop-m-init c =
+    let it = c.into_iter-m-iterator.result in
+    let e : it.table.now ≡ c.args.table.now = search rules in
+    let n : it.number ≡ 0 = search rules in
+    let p : it.place ≡ 0 = search rules in
+    let f : it.first ≡ 0 = search rules in
+    let sounds : sound c.args.table.now ≡ true = search rules in
+    (walk_start_of _ _ _ _ _ sounds e n p f, tt, e, wanting_begun (room_of c.args.table.now) c.args.selection.now c.args.wanted.now _ _ _ sounds c.requires.1 n p f, sym f)
+
+pub row_count-count-requires : goal.row_count-count-requires
+row_count-count-requires c =
+    let it = c.loop-m.m-iterator in
+    let to = c.next.new.self in
+    let s : Step c.args.table.now it.number it.place it.first c.in-Some.m to.number to.place to.first = step_of _ _ _ _ _ _ _ _ _ c.in-Some.ensures.steps.1 c.loop-m.invariant.2 in
+    step_known _ _ _ _ _ _ _ _ s c.loop-m.invariant.3.each.counted.walk
+
+pub overflow_sub-wanted : goal.overflow_sub-wanted
+overflow_sub-wanted c =
+    let it = c.loop-m.m-iterator in
+    let to = c.next.new.self in
+    let s : Step c.args.table.now it.number it.place it.first c.in-Some.m to.number to.place to.first = step_of _ _ _ _ _ _ _ _ _ c.in-Some.ensures.steps.1 c.loop-m.invariant.2 in
+    want_before (room_of c.args.table.now) c.args.selection.now _ _ _ _ _ _ _ _ s c.loop-m.invariant.3
+
+pub returns-then-wanted-m : goal.returns-then-wanted-m
+returns-then-wanted-m c =
+    let it = c.loop-m.m-iterator in
+    let to = c.next.new.self in
+    let s : Step c.args.table.now it.number it.place it.first c.in-Some.m to.number to.place to.first = step_of _ _ _ _ _ _ _ _ _ c.in-Some.ensures.steps.1 c.loop-m.invariant.2 in
+    let short = want_short (room_of c.args.table.now) c.args.selection.now _ _ _ _ _ _ _ _ s c.loop-m.invariant.3 in
+    search (short, rules)
+
+pub bounds-selection-m : goal.bounds-selection-m
+bounds-selection-m c =
+    let it = c.loop-m.m-iterator in
+    let to = c.next.new.self in
+    let s : Step c.args.table.now it.number it.place it.first c.in-Some.m to.number to.place to.first = step_of _ _ _ _ _ _ _ _ _ c.in-Some.ensures.steps.1 c.loop-m.invariant.2 in
+    want_byte (room_of c.args.table.now) c.args.selection.now c.args.wanted.now _ _ _ _ _ _ _ s c.loop-m.invariant.3
+
+pub module_right-requires : goal.module_right-requires
+module_right-requires c =
+    let it = c.loop-m.m-iterator in
+    let to = c.next.new.self in
+    let s : Step c.args.table.now it.number it.place it.first c.in-Some.m to.number to.place to.first = step_of _ _ _ _ _ _ _ _ _ c.in-Some.ensures.steps.1 c.loop-m.invariant.2 in
+    let known = step_known _ _ _ _ _ _ _ _ s c.loop-m.invariant.3.each.counted.walk in
+    let before = want_before (room_of c.args.table.now) c.args.selection.now _ _ _ _ _ _ _ _ s c.loop-m.invariant.3 in
+    search (wanting, known, before, rules)
+
+pub returns-then-not-module_right : goal.returns-then-not-module_right
+returns-then-not-module_right c =
+    let it = c.loop-m.m-iterator in
+    let to = c.next.new.self in
+    let s : Step c.args.table.now it.number it.place it.first c.in-Some.m to.number to.place to.first = step_of _ _ _ _ _ _ _ _ _ c.in-Some.ensures.steps.1 c.loop-m.invariant.2 in
+    let wrong = want_wrong (room_of c.args.table.now) c.args.selection.now _ _ _ _ _ _ _ _ s c.loop-m.invariant.3 in
+    search (wanting, wrong, rules)
+
+pub loop-m-preserved : goal.loop-m-preserved
+loop-m-preserved c =
+    let it = c.loop-m.m-iterator in
+    let to = c.next.new.self in
+    let s : Step c.args.table.now it.number it.place it.first c.in-Some.m to.number to.place to.first = step_of _ _ _ _ _ _ _ _ _ c.in-Some.ensures.steps.1 c.loop-m.invariant.2 in
+    let next = want_next (room_of c.args.table.now) c.args.selection.now _ _ _ _ _ _ _ _ s c.loop-m.invariant.3 in
+    let ended = want_ended (room_of c.args.table.now) c.args.selection.now c.args.wanted.now _ _ _ _ _ _ _ s c.loop-m.invariant.3 in
+    let same : to.table.now ≡ c.args.table.now = c.in-Some.ensures.steps.0 ∙ c.loop-m.invariant.2 in
+    let walks : Walk to.table.now to.number to.place to.first = rw same (walk_step _ _ _ _ _ _ _ _ s c.loop-m.invariant.3.each.counted.walk) in
+    (walks, tt, same, search (wanting, next, rules), search (ended, rules))
+
+pub returns : goal.returns
+returns c =
+    let e = c.loop-m.invariant in
+    let l = past_end _ _ _ c.in-None.ensures.steps.1.0 e.2 in
+    rw e.4 (wanting_all (room_of c.args.table.now) c.args.selection.now _ _ _ _ e.3 l)
