@@ -21,17 +21,34 @@ pub fn label_right(text: &[u8]) -> bool
 }
 
 // How many bytes of a field are zero.
+#[tactic(auto, using(crate::specs::Field::Tally::tallying))]
 fn zero_count(field: &[u8]) -> usize
     ensures { result ≡ tally is_zero field.now }
 {
-    field.iter().filter(|b| **b == 0).count()
+    let mut count = 0;
+    for b in field {
+        if *b == 0 {
+            count += 1;
+        }
+    }
+    count
 }
 
 // How many bytes at the beginning of a field may stand in a label.
+#[tactic(auto, using(crate::specs::Field::Run::running))]
 fn label_run(field: &[u8]) -> usize
     ensures { result ≡ run label_byte field.now }
 {
-    field.iter().take_while(|b| label_byte(**b)).count()
+    for (i, b) in field.iter().enumerate() {
+        // Most bytes of a label stand above the quote.
+        if 0x22 < *b && *b <= 0x7E {
+            continue;
+        }
+        if !label_byte(*b) {
+            return i;
+        }
+    }
+    field.len()
 }
 
 // Whether a field holds a label and then zero bytes.

@@ -2,14 +2,16 @@
 ghost use Rattle.std.specs.Prelude.{[], ◌∷◌, ◌+◌, ◌≤◌, length};
 ghost use Rattle.text.specs.Written.{Wrote};
 
-// The bytes of `source`.
+// The bytes of `source`. One by one: `copy_from_slice` asks a host for `memmove`, too.
+#[tactic(auto, using(crate::specs::Written::Laws::copying))]
 pub fn put_bytes(buffer: &mut [u8], at: usize, source: &[u8]) -> usize
     requires { at + length source.now ≤ length buffer.old }
     ensures { Wrote buffer.old at source.now result buffer.new }
 {
-    let end = at + source.len();
-    buffer[at..end].copy_from_slice(source);
-    end
+    for i in 0..source.len() {
+        buffer[at + i] = source[i];
+    }
+    at + source.len()
 }
 
 // One byte.

@@ -69,7 +69,8 @@ fn play_all(
     Ok(())
 }
 
-// Plays standard input from the start values and the fresh row on.
+// Plays standard input from the start values and the fresh row on. It is not laid into `main`, so that a table is refused without the stack for the values.
+#[inline(never)]
 pub(crate) fn play_input(reader: &mut impl Read, writer: &mut impl Write, table: &[u8])
     requires { sound table.now ≡ true }
 {

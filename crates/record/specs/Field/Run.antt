@@ -1,9 +1,7 @@
 -- A field: the bytes at its beginning that may stand in a label are the label, where only zero bytes follow.
 use Rattle.std.proofs.Math.Path.{◌≡◌, sym}
-use Rattle.std.proofs.lemmas.List.Folds.{length-prefix_len}
-use Rattle.std.specs.List.{prefix_len, take_while}
 use Rattle.std.specs.Prelude.{refl, Bool, cond, ◌&&◌, List, [], ◌∷◌, ℕ, zero, suc, ◌+◌, ◌-◌, ◌≤◌, ◌<◌, eqb, get_or, take, drop}
-use Rattle.std.proofs.Common.{ap, ◌∙◌, add-zero, arith, length-drop, get_or-drop}
+use Rattle.std.proofs.Common.{ap, ◌∙◌, add-zero, add-one, arith, drop_of_length-le, length-drop, drop-cons, get_or-drop}
 use Rattle.std.proofs.Math.Bool.{true, false}
 use Prim.Native.Nat.compare
 use borrow.Author.Tests.{eqb-true, le-leb, ne_eqb}
@@ -61,18 +59,46 @@ run_at test (suc i) (b ∷ s) l e n =
     let k = every-both test b (take i s) e in
     rw k.0 (ap suc (run_at test i s (omega arith) k.1 (λ h. n (omega arith))))
 
--- as many are taken from the front as meet the test
-prefix-run : (test : ℕ → Bool) (s : List ℕ) → prefix_len test s ≡ run test s
-unfolding run
-prefix-run test [] = refl
-prefix-run test (b ∷ s) = go (test b) (prefix-run test s)
-  where
-    go : (t : Bool) → prefix_len test s ≡ run test s → cond t (1 + prefix_len test s) 0 ≡ cond t (suc (run test s)) 0
-    go true h = omega (arith, h)
-    go false h = refl
+-- ---- the pass over the bytes
 
-pub run-taken : (test : ℕ → Bool) (s : List ℕ) → length (take_while test s) ≡ run test s
-run-taken test s = length-prefix_len test s ∙ prefix-run test s
+run-cons : (test : ℕ → Bool) (b : ℕ) (s : List ℕ) (t : Bool) → test b ≡ t → run test (b ∷ s) ≡ cond t (suc (run test s)) 0
+unfolding run
+run-cons test b s t e = rw e
+
+-- the bytes before i meet the test
+pub record Running (test : ℕ → Bool) (s : List ℕ) (i : ℕ) : Type 0 where
+  pub within : i ≤ length s
+  pub rest : run test s ≡ i + run test (drop i s)
+
+pub run_start : (test : ℕ → Bool) (s : List ℕ) → Running test s 0
+run_start test s = record { within = omega arith; rest = omega arith }
+
+module _ (s : List ℕ) (i : ℕ) (t : Bool) (p : Running label_byte s i) (l : i < length s) (e : t ≡ label_byte (get_or s i 0)) where
+  pub run_next : t ≡ true → Running label_byte s (i + 1)
+  run_next y =
+      let c = run-cons label_byte (get_or s i 0) (drop (i + 1) s) true (sym e ∙ y) in
+      record { within = omega arith; rest = p.rest ∙ rw (drop-cons s i 0 l, ← add-one i, c) (omega arith) }
+
+  pub run_stop : t ≡ false → i ≡ run label_byte s
+  run_stop y =
+      let c = run-cons label_byte (get_or s i 0) (drop (i + 1) s) false (sym e ∙ y) in
+      sym (p.rest ∙ rw (drop-cons s i 0 l, ← add-one i, c) (omega arith))
+
+-- a byte above the quote
+plain : (b : ℕ) → 34 < b → b ≤ 126 → label_byte b ≡ true
+unfolding label_byte
+plain b l h = rw (le-leb 32 b (omega arith), le-leb b 126 h, ne_eqb b 34 (λ e. omega arith)) refl
+
+pub run_plain : (s : List ℕ) (i : ℕ) → Running label_byte s i → i < length s → 34 < get_or s i 0 → get_or s i 0 ≤ 126 → Running label_byte s (i + 1)
+run_plain s i p l a b = run_next s i true p l (sym (plain (get_or s i 0) a b)) refl
+
+pub run_all : (s : List ℕ) (i : ℕ) → Running label_byte s i → length s ≤ i → length s ≡ run label_byte s
+unfolding run
+run_all s i p l =
+    let n : run label_byte s ≡ i = p.rest ∙ rw (drop_of_length-le s l) (omega arith) in
+    omega (arith, p.within, n)
+
+pub ruleset running = (run_start, run_next, run_plain, run_stop, run_all)
 
 -- ---- the label ends where the pass does
 

@@ -1,8 +1,7 @@
 -- How many bytes of a field meet a test.
-use Rattle.std.proofs.lemmas.List.Recursion.{is_count_by}
-use Rattle.std.specs.List.{count_by}
-use Rattle.std.specs.Prelude.{◌≡◌, refl, Bool, cond, ◌&&◌, List, [], ◌∷◌, ℕ, suc, ◌+◌, ◌≤◌, eqb, length}
-use Rattle.std.proofs.Common.{sym, ◌∙◌, arith, ne_eqb}
+use Rattle.std.specs.Prelude.{◌≡◌, Bool, cond, ◌&&◌, List, [], ◌∷◌, ℕ, suc, ◌+◌, ◌≤◌, ◌<◌, eqb, length, get_or, drop}
+use Rattle.std.proofs.Common.{sym, ◌∙◌, add-one, arith, eq-eqb, ne_eqb, drop_of_length-le, drop-cons}
+use Rattle.std.proofs.Math.Path.{ap}
 use Rattle.std.proofs.Math.Bool.{true, false}
 use Prim.Native.Nat.compare
 use Rattle.text.specs.Every.{every}
@@ -33,11 +32,39 @@ tally-every (b ∷ s) = every-cons is_zero b s ∙ go (is_zero b) (tally-every s
     go true h = simp compare.suc-suc h
     go false h = sym (ne_eqb (tally is_zero s) (suc (length s)) (λ q. omega (arith, tally-most is_zero s)))
 
--- as many bytes are zero as are counted
-one_more : (t : Bool) (n : ℕ) → cond t (suc n) n ≡ cond t (1 + n) n
-one_more true n = omega arith
-one_more false n = refl
+-- ---- the pass over the bytes
 
-pub tally-counted : (s : List ℕ) → count_by (λ b. eqb b 0) s ≡ tally is_zero s
-unfolding tally is_zero
-tally-counted s = sym (is_count_by (tally is_zero) (λ b. eqb b 0) refl (λ b t. one_more (eqb b 0) (tally is_zero t)) s)
+tally-cons : (test : ℕ → Bool) (b : ℕ) (s : List ℕ) (t : Bool) → test b ≡ t → tally test (b ∷ s) ≡ cond t (suc (tally test s)) (tally test s)
+unfolding tally
+tally-cons test b s t e = rw e
+
+-- so many of the bytes before i are zero
+pub record Tallied (s : List ℕ) (count i : ℕ) : Type 0 where
+  pub within : i ≤ length s
+  pub few : count ≤ i
+  pub rest : tally is_zero s ≡ count + tally is_zero (drop i s)
+
+pub tally_start : (s : List ℕ) → Tallied s 0 0
+tally_start s = record { within = omega arith; few = omega arith; rest = omega arith }
+
+module _ (s : List ℕ) (count i : ℕ) (p : Tallied s count i) (l : i < length s) where
+  here : (t : Bool) → is_zero (get_or s i 0) ≡ t → tally is_zero (drop i s) ≡ cond t (suc (tally is_zero (drop (i + 1) s))) (tally is_zero (drop (i + 1) s))
+  here t e = rw (drop-cons s i 0 l, ← add-one i) (tally-cons is_zero (get_or s i 0) (drop (i + 1) s) t e)
+
+  pub tally_zero : get_or s i 0 ≡ 0 → Tallied s (count + 1) (i + 1)
+  unfolding is_zero
+  tally_zero e =
+      let h = here true (eq-eqb (get_or s i 0) 0 e) in
+      record { within = omega arith; few = omega (arith, p.few); rest = omega (arith, p.rest, h) }
+
+  pub tally_other : (get_or s i 0 ≡ 0 → ⊥) → Tallied s count (i + 1)
+  unfolding is_zero
+  tally_other n =
+      let h = here false (ne_eqb (get_or s i 0) 0 n) in
+      record { within = omega arith; few = omega (arith, p.few); rest = p.rest ∙ ap (λ k. count + k) h }
+
+pub tally_end : (s : List ℕ) (count i : ℕ) → Tallied s count i → length s ≤ i → count ≡ tally is_zero s
+unfolding tally
+tally_end s count i p l = sym (p.rest ∙ rw (drop_of_length-le s l) (omega arith))
+
+pub ruleset tallying = (tally_start, tally_zero, tally_other, tally_end)

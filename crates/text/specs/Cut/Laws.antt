@@ -1,9 +1,6 @@
 -- Laws of cutting at a byte.
-use Rattle.std.specs.Prelude.{◌≡◌, refl, Bool, true, false, cond, List, [], ◌∷◌, ◌++◌, ℕ, zero, suc, ◌+◌, ◌≤◌, ◌<◌, eqb, length, get_or, take, Option}
-use Rattle.std.proofs.Common.{sym, ◌∙◌, ap, add-one, zero-add, arith, eq-eqb, ne_eqb, eqb-true}
-use Rattle.std.proofs.lemmas.Iterator.{index_from_first}
-use Rattle.std.specs.List.{AllWithin, HoldsAt}
-use Rattle.std.specs.Option.{MatchOption, unwrap_or}
+use Rattle.std.specs.Prelude.{◌≡◌, refl, Bool, true, false, cond, List, [], ◌∷◌, ◌++◌, ℕ, zero, suc, ◌+◌, ◌≤◌, ◌<◌, eqb, length, get_or, take, drop}
+use Rattle.std.proofs.Common.{sym, ◌∙◌, ap, add-one, zero-add, arith, eq-eqb, ne_eqb, eqb-true, drop_of_length-le, drop-cons}
 use Rattle.text.specs.Cut.{index_of}
 use Rattle.text.specs.Every.{every}
 use Rattle.text.specs.Every.Laws.{every-both}
@@ -16,16 +13,37 @@ past_head : (b x : ℕ) (s : List ℕ) → (x ≡ b → ⊥) → index_of b (x �
 unfolding index_of
 past_head b x s h = rw (ne_eqb x b h)
 
+-- a search has passed i bytes of s, none of them b
+pub record Searched (b : ℕ) (s : List ℕ) (i : ℕ) : Type 0 where
+  pub within : i ≤ length s
+  pub rest : index_of b s ≡ i + index_of b (drop i s)
+
+pub searched_start : (b : ℕ) (s : List ℕ) → Searched b s 0
+searched_start b s = record { within = omega arith; rest = sym (zero-add (index_of b s)) }
+
+pub searched_next : (b : ℕ) (s : List ℕ) (i : ℕ) → Searched b s i → i < length s → (get_or s i 0 ≡ b → ⊥) → Searched b s (i + 1)
+searched_next b s i h l n =
+    let e : index_of b (drop i s) ≡ suc (index_of b (drop (i + 1) s)) = rw (add-one, drop-cons s i 0) (past_head b (get_or s i 0) (drop (suc i) s) n) in
+    record { within = omega arith; rest = omega (arith, h.rest) }
+
+pub searched_found : (b : ℕ) (s : List ℕ) (i : ℕ) → Searched b s i → i < length s → get_or s i 0 ≡ b → i ≡ index_of b s
+searched_found b s i h l n =
+    let e : index_of b (drop i s) ≡ 0 = rw (drop-cons s i 0) (at_head b (get_or s i 0) (drop (suc i) s) n) in
+    omega (arith, h.rest)
+
 nothing : (b : ℕ) → index_of b [] ≡ 0
 unfolding index_of
 nothing b = refl
 
--- the first byte that is b, where a search found it, or else the length
-pub index_found_first : (b : ℕ) (s : List ℕ) (r : Option ℕ)
-    → MatchOption r (AllWithin (λ x. x ≡ b → ⊥) s 0 (length s)) (λ i. (i < length s) × HoldsAt (λ x. x ≡ b) s i × AllWithin (λ x. x ≡ b → ⊥) s 0 i)
-    → index_of b s ≡ unwrap_or r (length s)
-index_found_first b s r h =
-    index_from_first (index_of b) (λ x. x ≡ b) (λ x. x ≡ b → ⊥) (nothing b) (at_head b) (λ x xs n. past_head b x xs n ∙ sym (add-one (index_of b xs))) s r h
+pub searched_all : (b : ℕ) (s : List ℕ) (i : ℕ) → Searched b s i → length s ≤ i → i ≡ index_of b s
+searched_all b s i h l =
+    let e : index_of b (drop i s) ≡ 0 = rw (drop_of_length-le s l) (nothing b) in
+    omega (arith, h.rest)
+
+pub searched_whole : (b : ℕ) (s : List ℕ) (i : ℕ) → Searched b s i → length s ≤ i → length s ≡ index_of b s
+searched_whole b s i h l = omega (arith, h.within, searched_all b s i h l)
+
+pub ruleset searching = (searched_start, searched_next, searched_found, searched_whole)
 
 -- ---- a byte that is not there
 

@@ -96,9 +96,10 @@ copy_next l at source i m c h =
 pub copy_end : (l : List ℕ) (at : ℕ) (source : List ℕ) (i : ℕ) (m : List ℕ) → Copied l at source i m → length source ≤ i → Wrote l at source (at + i) m
 copy_end l at source i m c h = rw (take_all i source h) at c.copy
 
--- a whole text, copied into the part of the buffer that it takes
-pub copy_whole : (l : List ℕ) (at : ℕ) (source part : List ℕ) → at + length source ≤ length l → part ≡ source
-    → Wrote l at source (at + length source) (put_mid at (at + length source - at) l part)
-copy_whole l at source part h e =
-    let n : at + length source - at ≡ length source = omega arith in
-    wrote refl (rw (n, e, drop-drop (length source) at l) (sym (sets-eq source l at h ∙ append_assoc (take at l) source (drop (at + length source) l))))
+-- all of it was written
+pub copy_all : (l : List ℕ) (at : ℕ) (source : List ℕ) (i : ℕ) (m : List ℕ) → Copied l at source i m → length source ≤ i → Wrote l at source (at + length source) m
+copy_all l at source i m c h =
+    let e : at + i ≡ at + length source = omega (arith, c.within) in
+    rw (← e) (copy_end l at source i m c h)
+
+pub ruleset copying = (copy_start, copy_next, copy_end, copy_all)

@@ -1,11 +1,15 @@
--- `zero_count`: the bytes that pass the filter are counted.
+-- `zero_count`: one more is zero, or none.
 use borrow.Author.Rules.{rules}
-use Rattle.std.proofs.Common.{◌≡◌, ◌∙◌, eqb}
-use Rattle.std.specs.List.{count_by}
-use Rattle.record.specs.Field.Tally.{tally-counted}
+use Rattle.record.specs.Field.Tally.{tallying}
 use Rattle.record.proofs.field.zero_count.Goals as goal
+use Rattle.record.proofs.field.zero_count.Goals.{then-b-eq0, else-b-eq0}
+
+pub loop-b-preserved : goal.loop-b-preserved
+loop-b-preserved c =
+    elim c.if-b-eq0.branch [
+      | then-b-eq0 w ↦ rw w.count-is (search (tallying, rules))
+      | else-b-eq0 w ↦ rw w.count-is (search (tallying, rules))
+    ]
 
 pub returns : goal.returns
-returns c =
-    let n : c.count.result ≡ count_by (λ b. eqb b 0) c.args.field.now = search rules in
-    n ∙ tally-counted c.args.field.now
+returns c = search (tallying, rules)

@@ -1,6 +1,7 @@
+-- `put_bytes`: the rules of its loop.
 use borrow.Author.Rules.{rules}
-use Rattle.text.specs.Written.Laws.{copy_whole}
+use Rattle.text.specs.Written.Laws.{copying}
 use Rattle.text.proofs.written.put_bytes.Goals as goal
 
-pub returns : goal.returns
-returns c = search (copy_whole, rules)
+pub loop-i-preserved : goal.loop-i-preserved
+loop-i-preserved c = search (copying, rules)
