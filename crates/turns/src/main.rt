@@ -8,8 +8,9 @@ mod told;
 
 use crate::input::play_input;
 use room::table::is_sound;
+use std::fs::File;
 use std::io::Write;
-use streams::reading::{Unread, read_file};
+use streams::reading::read_full;
 use streams::writing::write_whole;
 
 fn refuse(writer: &mut impl Write) {
@@ -19,15 +20,16 @@ fn refuse(writer: &mut impl Write) {
 fn main(rt: HostRuntime) {
     let mut reader = rt.stdin();
     let mut writer = rt.stdout();
+    // The file is opened before there is a buffer, so that the copies of its name and the buffer take the same stack.
+    let Ok(mut file) = File::open(&rt, "table") else {
+        refuse(&mut writer);
+        return;
+    };
     let mut space = [0; 4096];
-    let length = match read_file(&rt, b"table", &mut space) {
+    let length = match read_full(&mut file, &mut space) {
         Ok(length) => length,
         // A table that was read in part is tested as far as it came.
-        Err(Unread::Failed(length)) => length,
-        Err(Unread::Unopened) => {
-            refuse(&mut writer);
-            return;
-        }
+        Err(unread) => unread.bytes_read(),
     };
     if !is_sound(&space[..length]) {
         refuse(&mut writer);
